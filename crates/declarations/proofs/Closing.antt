@@ -13,8 +13,9 @@ use lib.ListN.{length}
 use lib.Pow.{pow-mono}
 use Rattle.std.specs.Orderings.{Decides}
 use Rattle.std.proofs.shelf.Ways.{same-from-decides, decides-like}
-use Rattle.std.proofs.shelf.Tests.{and-parts, and-from, or-cases, or-parts, eqb-true, eqb-false, eq-eqb, both-ways, cases-lt, cases-eq}
+use Rattle.std.proofs.shelf.Tests.{and-parts, and-from, or-cases, or-parts, eqb-true, eqb-false, eq-eqb, both-ways, cases-lt, cases-eq, cases-bool, cases-order}
 use Rattle.declarations.specs.Declarations.{Declaration, Under, Widest, NoWidest, sound}
+use Rattle.declarations.specs.Declarations.Under.{itself}
 use Rattle.declarations.specs.Rows.{bit, row, meets, meets-all, closed-to, closed}
 use Rattle.declarations.proofs.Binary.{bit-none, bit-and, bit-past, Lowest, lowest, same-bits}
 use Rattle.declarations.proofs.Grown.{Right, shared}
@@ -66,7 +67,7 @@ module _ (limit : ℕ) (ds : List Declaration) (rows : List ℕ) (ok : sound ds 
       low-is : Lowest limit both
       low-is = lowest limit both both-limit ne
 
-      low-within : low < length ds
+      pub low-within : low < length ds
       low-within =
           elim (cases-lt (trailingZeros limit both) (length ds)) [
             inl h ↦ h
@@ -158,3 +159,27 @@ closed-from-all limit rows n (suc m) h =
 -- and rows in which every two kinds meet are closed
 pub closed-from : (limit : ℕ) (rows : List ℕ) → ((a b : ℕ) → a < length rows → b < length rows → meets limit rows a b ≡ true) → closed limit rows ≡ true
 closed-from limit rows h = closed-from-all limit rows (length rows) (length rows) h
+
+swapped : (ds : List Declaration) (a b : ℕ) → NoWidest ds a b → NoWidest ds b a
+swapped ds a b n =
+    let (k, u, v) = n .0 in
+    ((k, v, u), λ c w. n .1 c (record { first = w .second; second = w .first; most = λ j x y. w .most j y x }))
+
+-- it suffices to look at each pair once
+pub closed-pairs : (limit : ℕ) (ds : List Declaration) (rows : List ℕ) → sound ds ≡ true → Right ds rows → length ds ≤ limit → ((x y : ℕ) → x < y → y < length ds → meets limit rows x y ≡ true) → closed limit rows ≡ true
+closed-pairs limit ds rows ok r few h =
+    closed-from limit rows (λ a b l m.
+      elim (cases-bool (meets limit rows a b)) [
+        inl t ↦ t
+      | inr f ↦ absurd (never a b (omega (arith, r .size)) (omega (arith, r .size)) (not-meets limit ds rows ok r few a b (omega (arith, r .size)) (omega (arith, r .size)) f))
+      ])
+  where
+    never : (a b : ℕ) → a < length ds → b < length ds → NoWidest ds a b → ⊥
+    never a b l m n =
+        elim (cases-order a b) [
+          inl e ↦ n .1 a (record { first = itself; second = subst (λ x. Under ds a x) e itself; most = λ j u v. u })
+        | inr o ↦ elim o [
+            inl lt ↦ meets-not limit ds rows ok r few a b l m (h a b lt m) n
+          | inr gt ↦ meets-not limit ds rows ok r few b a m l (h b a gt l) (swapped ds a b n)
+          ]
+        ]

@@ -6,3 +6,4 @@ pub mod Closing
 pub mod Ordered
 pub mod Words
 pub mod Scanning
+pub mod Named

@@ -13,25 +13,16 @@ use Rattle.std.proofs.shelf.Tests.{and-parts, and-from, and-cases, eqb-true, eq
 use Rattle.std.specs.declared.option.Option.{Option}
 use Rattle.std.specs.declared.option.Option.the-variants.{Some, None}
 use Rattle.orders.specs.Meaning.{Meaning, IsCommon}
-use Rattle.declarations.specs.Declarations.{Declaration, Under, Widest, sound}
+use Rattle.declarations.specs.Declarations.{Declaration, Under, Widest, NoWidest, sound}
 use Rattle.declarations.specs.Declarations.Under.{itself}
 use Rattle.declarations.specs.Rows.{row, rows-of, lowest-in, stray-common, common-in, closed}
 use Rattle.declarations.proofs.Grown.{Right, rows-right}
 use Rattle.declarations.proofs.Above.{under-through, under-same, under-le, under-any, stray-under}
 use Rattle.declarations.proofs.Closing.{nothing-both, meets-widest, closed-meets}
 
-module _ (limit : ℕ) (ds : List Declaration) (rows : List ℕ) (ok : sound ds ≡ true) (r : Right ds rows) (few : length ds ≤ limit) (c : closed limit rows ≡ true) where
-  kinds-common : (a b : ℕ) → a < length ds → b < length ds → IsCommon (Under ds) a b (lowest-in limit (bitAnd (row rows a) (row rows b)))
-  kinds-common a b l m =
-      cond-both (eqb (bitAnd (row rows a) (row rows b)) 0) None (Some (trailingZeros limit (bitAnd (row rows a) (row rows b)))) (IsCommon (Under ds) a b)
-      (λ t. nothing-both limit ds rows ok r few a b l m (eqb-true _ _ t))
-      (λ f.
-        let meet = closed-meets limit rows c a b (omega (arith, r .size)) (omega (arith, r .size)) in
-        let w = meets-widest limit ds rows ok r few a b l m meet (eqb-false _ _ f) in
-        (w .first, w .second, w .most))
-
+module _ (ds : List Declaration) (ok : sound ds ≡ true) where
   -- where one of the two is past the last kind
-  strays-common : (a b : ℕ) → (length ds ≤ a) ⊎ (length ds ≤ b) → IsCommon (Under ds) a b (stray-common a b)
+  pub strays-common : (a b : ℕ) → (length ds ≤ a) ⊎ (length ds ≤ b) → IsCommon (Under ds) a b (stray-common a b)
   strays-common a b s =
       elim (cases-eq a b) [
         inl e ↦ rw (cond-true _ (Some a) _ (eq-eqb a b e)) (itself, subst (λ x. Under ds a x) e itself, λ k u v. u)
@@ -57,15 +48,30 @@ module _ (limit : ℕ) (ds : List Declaration) (rows : List ℕ) (ok : sound ds 
           let e = only b k g nb v in
           elim (stray-under ds ok k a (omega arith) u) [ inl f ↦ ne (f ∙ e) | inr f ↦ na f ]
 
+-- an answer that obeys the rule leaves no pair without a widest kind
+pub common-not : (ds : List Declaration) (a b : ℕ) (o : Option ℕ) → IsCommon (Under ds) a b o → NoWidest ds a b → ⊥
+common-not ds a b (Some c) h n = n .1 c (record { first = h .0; second = h .1; most = h .2 })
+common-not ds a b None h n = let (k, u, v) = n .0 in h k u v
+
+module _ (limit : ℕ) (ds : List Declaration) (rows : List ℕ) (ok : sound ds ≡ true) (r : Right ds rows) (few : length ds ≤ limit) (c : closed limit rows ≡ true) where
+  kinds-common : (a b : ℕ) → a < length ds → b < length ds → IsCommon (Under ds) a b (lowest-in limit (bitAnd (row rows a) (row rows b)))
+  kinds-common a b l m =
+      cond-both (eqb (bitAnd (row rows a) (row rows b)) 0) None (Some (trailingZeros limit (bitAnd (row rows a) (row rows b)))) (IsCommon (Under ds) a b)
+      (λ t. nothing-both limit ds rows ok r few a b l m (eqb-true _ _ t))
+      (λ f.
+        let meet = closed-meets limit rows c a b (omega (arith, r .size)) (omega (arith, r .size)) in
+        let w = meets-widest limit ds rows ok r few a b l m meet (eqb-false _ _ f) in
+        (w .first, w .second, w .most))
+
   pub common-holds : (a b : ℕ) → IsCommon (Under ds) a b (common-in limit rows a b)
   common-holds a b =
       let s = r .size in
       elim (cases-lt a (length ds)) [
         inl l ↦ elim (cases-lt b (length ds)) [
           inl m ↦ rw (cond-true (ltb a (length rows) && ltb b (length rows)) (lowest-in limit (bitAnd (row rows a) (row rows b))) (stray-common a b) (and-from _ _ (lt-ltb a (length rows) (omega arith)) (lt-ltb b (length rows) (omega arith)))) (kinds-common a b l m)
-        | inr m ↦ rw (cond-false (ltb a (length rows) && ltb b (length rows)) (lowest-in limit (bitAnd (row rows a) (row rows b))) (stray-common a b) (and-right _ _ (le-ltb b (length rows) (omega arith)))) (strays-common a b (inr m))
+        | inr m ↦ rw (cond-false (ltb a (length rows) && ltb b (length rows)) (lowest-in limit (bitAnd (row rows a) (row rows b))) (stray-common a b) (and-right _ _ (le-ltb b (length rows) (omega arith)))) (strays-common ds ok a b (inr m))
         ]
-      | inr l ↦ rw (cond-false (ltb a (length rows) && ltb b (length rows)) (lowest-in limit (bitAnd (row rows a) (row rows b))) (stray-common a b) (and-left _ _ (le-ltb a (length rows) (omega arith)))) (strays-common a b (inl l))
+      | inr l ↦ rw (cond-false (ltb a (length rows) && ltb b (length rows)) (lowest-in limit (bitAnd (row rows a) (row rows b))) (stray-common a b) (and-left _ _ (le-ltb a (length rows) (omega arith)))) (strays-common ds ok a b (inl l))
       ]
 
 -- the meaning of sound declarations whose rows are closed

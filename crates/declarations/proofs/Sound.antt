@@ -9,7 +9,7 @@ use lib.Dec.{eqb, ltb}
 use lib.ListN.{length, getD, take}
 use Rattle.std.specs.shelf.Text.{sameBytes}
 use Rattle.std.proofs.shelf.Lists.{append-nil, getD-past, getD-take, length-take-le, nil-from-length}
-use Rattle.std.proofs.shelf.Tests.{and-parts, and-from, or-left, or-right, or-cases, eqb-true, eq-eqb, ltb-true, not-true, both-ways, cases-lt, cases-order}
+use Rattle.std.proofs.shelf.Tests.{and-parts, and-from, or-left, or-right, or-cases, eqb-true, eq-eqb, ltb-true, not-true, both-ways, cases-lt, cases-bool, cases-order}
 use Rattle.std.proofs.shelf.Equals.{sameBytes-decides}
 use Rattle.declarations.specs.Names.{is-name, all-name, listed}
 use Rattle.declarations.specs.Declarations.{Declaration, any, stray, name-of, wider-of, among, names, all-below, follows, follow-on, sound}
@@ -34,6 +34,23 @@ unfolding listed
 listed-at [] k l = absurd (omega arith)
 listed-at (d ∷ ds) zero l = or-left (sameBytes (d .name) (d .name)) _ (sameBytes-decides (d .name) (d .name) .1 refl)
 listed-at (d ∷ ds) (suc k) l = or-right (sameBytes (name-of ds k) (d .name)) _ (listed-at ds k (omega arith))
+
+-- a name that is listed is some kind's, and one that is not is none's
+pub listed-is : (ds : List Declaration) (w : List ℕ) → listed w (names ds) ≡ true → (k : ℕ) × (k < length ds) × (name-of ds k ≡ w)
+unfolding listed
+listed-is [] w h = absurd (both-ways false refl h)
+listed-is (d ∷ ds) w h =
+    elim (or-cases (sameBytes w (d .name)) (listed w (names ds)) h) [
+      inl e ↦ (0, omega arith, sym (sameBytes-decides w (d .name) .0 e))
+    | inr m ↦ let (k, l, e) = listed-is ds w m in (suc k, omega arith, e)
+    ]
+
+pub not-listed : (ds : List Declaration) (w : List ℕ) → ((k : ℕ) → k < length ds → name-of ds k ≡ w → ⊥) → listed w (names ds) ≡ false
+not-listed ds w h =
+    elim (cases-bool (listed w (names ds))) [
+      inl t ↦ absurd (let (k, l, e) = listed-is ds w t in h k l e)
+    | inr f ↦ f
+    ]
 
 -- what `follows` says, part by part
 pub record Follows (ds : List Declaration) (d : Declaration) : Type 0 where

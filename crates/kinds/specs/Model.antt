@@ -1,0 +1,52 @@
+-- What the calls on declared kinds answer.
+use mathlib.Core.Path.{_≡_}
+use mathlib.Core.Bool.{true, false}
+use mathlib.Core.Logic.{_⊎_}
+use mathlib.Core.List.{List, [], _∷_, _++_}
+use Prim.Native.Nat.{ℕ, _+_, _^_, _<_, _≤_}
+use lib.ListN.{length}
+use Rattle.std.specs.shelf.Lists.{All}
+use Rattle.std.specs.declared.option.Option.{Option}
+use Rattle.std.specs.declared.option.Option.the-variants.{Some, None}
+use Rattle.std.specs.declared.result.Result.{Result}
+use Rattle.std.specs.declared.result.Result.the-variants.{Ok, Err}
+use Rattle.refusals.specs.declared.Refusal.{Refusal}
+use Rattle.refusals.specs.Table.{row}
+use Rattle.declarations.specs.Names.{is-name, listed}
+use Rattle.declarations.specs.Declarations.{Declaration, name-of, NoWidest}
+use Rattle.declarations.specs.Lines.{tail, Known, Unknown, FirstUnknown}
+use Rattle.declarations.specs.Rows.{bit, rows-of, meets, closed}
+use Rattle.kinds.specs.declared.table.Table.{Table}
+use Rattle.kinds.specs.Stored.{stored}
+
+abbrev pub kinds-of : Table → List Declaration
+kinds-of t = stored (t .names) (t .wider) (t .count)
+
+-- the kind of that name, or none where no kind has it
+abbrev pub Finds : List Declaration → List ℕ → Option ℕ → Type 0
+Finds ds word (Some k) = (k < length ds) × (name-of ds k ≡ word)
+Finds ds word None = Unknown ds word
+
+-- the kinds that the words after `at` name, as bits; or the first word that names none, refused with 3
+abbrev pub Gathers : List Declaration → ℕ → List (List ℕ) → Result ℕ Refusal → Type 0
+Gathers ds at ws (Ok mask) = All (Known ds) ws × (mask < 2 ^ length ds) × ((k : ℕ) → k < length ds → bit mask k ≡ listed (name-of ds k) ws)
+Gathers ds at ws (Err e) = (p : ℕ) × FirstUnknown ds at ws p × (row e ≡ record { number = 3; values = p ∷ [] })
+
+-- the first kind past a with which it does not meet, or none
+abbrev pub FirstPast : List ℕ → ℕ → ℕ → Option ℕ → Type 0
+FirstPast rows n a (Some b) = (a < b) × (b < n) × (meets 64 rows a b ≡ false) × ((y : ℕ) → a < y → y < b → meets 64 rows a y ≡ true)
+FirstPast rows n a None = (y : ℕ) → a < y → y < n → meets 64 rows a y ≡ true
+
+-- pairs with the lower number first; of two pairs that with the lower first number, then that with the lower second number, comes before
+abbrev pub Before : ℕ → ℕ → ℕ → ℕ → Type 0
+Before x y a b = (x < a) ⊎ ((x ≡ a) × (y < b))
+
+-- a and b are the first pair whose kinds under both have no widest
+pub record First (ds : List Declaration) (a b : ℕ) : Type 0 where
+  pub order : a < b
+  pub apart : NoWidest ds a b
+  pub first : (x y : ℕ) → x < y → Before x y a b → NoWidest ds x y → ⊥
+
+abbrev pub FirstPair : List Declaration → Option (ℕ × ℕ) → Type 0
+FirstPair ds (Some p) = First ds (p .0) (p .1)
+FirstPair ds None = closed 64 (rows-of ds) ≡ true
