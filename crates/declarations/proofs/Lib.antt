@@ -7,3 +7,4 @@ pub mod Ordered
 pub mod Words
 pub mod Scanning
 pub mod Named
+pub mod Determined

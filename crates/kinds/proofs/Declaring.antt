@@ -29,16 +29,9 @@ use Rattle.declarations.specs.Lines.{tail, Line, GoesOn, Breaks, LongName, TooM
 use Rattle.declarations.specs.Rows.{bit, members}
 use Rattle.declarations.proofs.Sound.{listed-is, listed-at}
 use Rattle.declarations.proofs.Words.{name-some, name-at, blank-apart}
+use Rattle.declarations.proofs.Determined.{breaks-apart}
 use Rattle.kinds.specs.Model.{Gathers, Finds}
 use Rattle.kinds.proofs.Members.{members-below, members-some, kept-same}
-
--- a line that breaks is no lawful line
-pub breaks-apart : (line : List ℕ) (p : ℕ) → Breaks line p → Line line → ⊥
-breaks-apart line p b l =
-    elim (b .1) [
-      inl h ↦ h .1 (drop (p + 1) line, subst Line (sym (take-append-drop (p + 1) line)) l)
-    | inr h ↦ h .1 l
-    ]
 
 module _ (line : List ℕ) (end : ℕ) (within : end ≤ length line)
     (name : 0 < end → is-name (take end line) ≡ true)

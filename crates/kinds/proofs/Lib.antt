@@ -6,3 +6,4 @@ pub mod Added
 pub mod Pairing
 pub mod Declaring
 pub mod Listing
+pub mod Ships

@@ -1,3 +1,4 @@
 pub mod Stored
 pub mod Model
 pub mod Lists
+pub mod Shipped
