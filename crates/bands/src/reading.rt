@@ -1,17 +1,16 @@
 // Reading a band: digits, amounts with their sign, and the band whose text stands first.
 ghost use mathlib.Core.Path.{_≡_};
-ghost use mathlib.Core.Bool.{false, true};
+ghost use mathlib.Core.Bool.{true};
 ghost use mathlib.Core.List.{List, _++_, _∷_};
 ghost use Prim.Native.Nat.{ℕ, _≤_};
 ghost use lib.ListN.{length, take, drop};
 ghost use Rattle.std.specs.declared.option.Option.the-variants.{Some};
 ghost use Rattle.std.specs.shelf.Lists.{All};
-ghost use Rattle.orders.specs.Texts.{Stops, Taken};
+ghost use Rattle.orders.specs.Texts.{Stops, Stopped, Taken};
 ghost use Rattle.bands.specs.Letters.{texts};
 ghost use Rattle.bands.specs.Texts.{ReadsText, ReadsNatural, ReadsAmount, NoDigit};
 ghost use Rattle.std.specs.Text.{asciiDigit};
 ghost use Rattle.std.specs.Reads.{value};
-ghost use Rattle.orders.specs.Texts.{stops as stopping};
 use crate::band::Band;
 use orders::texts::stop;
 
@@ -94,9 +93,7 @@ fn parsed(text: &[u8]) -> Option<Band>
 
 // The band whose text stands before the first stop, which is at `end`, and the bytes taken.
 fn read_to(bytes: &[u8], end: usize) -> Option<(Band, usize)>
-    requires within { ⌜ end ≤ length (now bytes) ⌝ }
-    requires before { ⌜ All (λ b. stopping b ≡ false) (take end (now bytes)) ⌝ }
-    requires after { ⌜ Stops (drop end (now bytes)) ⌝ }
+    requires { ⌜ Stopped (now bytes) end ⌝ }
     ensures read_back { λ r. ⌜ ((k : Band) (t rest : List ℕ) → texts .text k ≡ Some t → Stops rest → now (bytes .entry) ≡ t ++ rest → r ≡ Some (k, length t)) ⌝ }
     ensures taken { λ r. ⌜ Taken texts (now (bytes .entry)) r ⌝ }
 {

@@ -30,8 +30,8 @@ module _ (ds : List Declaration) (ok : sound ds ≡ true) where
   any-within zero k l = let e : k ≡ 0 = omega arith in rw e itself
   any-within (suc n) k l =
       elim (cases-lt 0 k) [
-        inl p ↦ let (w, a) = some-wider ds ok k p in above a (any-within n w (omega (arith, earlier ds ok k w a)))
-      | inr z ↦ let e : k ≡ 0 = omega arith in rw e itself
+        | inl p ↦ let (w, a) = some-wider ds ok k p in above a (any-within n w (omega (arith, earlier ds ok k w a)))
+        | inr z ↦ let e : k ≡ 0 = omega arith in rw e itself
       ]
 
   -- every number is at or under `any`
@@ -45,6 +45,6 @@ module _ (ds : List Declaration) (ok : sound ds ≡ true) where
   stray-under k l g (above {w = w} a u) =
       let e : wider-of ds k ≡ 0 ∷ [] = ap (λ d. d .wider) (getD-past ds k stray g) in
       elim (or-cases (eqb w 0) false (rw e at a)) [
-        inl z ↦ inr (omega (arith, eqb-true w 0 z, under-le u))
-      | inr z ↦ absurd (both-ways false refl z)
+        | inl z ↦ inr (omega (arith, eqb-true w 0 z, under-le u))
+        | inr z ↦ absurd (both-ways false refl z)
       ]

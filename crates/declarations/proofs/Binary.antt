@@ -45,8 +45,8 @@ bit-or a b (suc j) = ap (λ v. bit v j) (or-shr a b 1) ∙ bit-or (a / 2) (b / 2
 eqb-suc : (j n : ℕ) → eqb j n ≡ eqb (suc j) (suc n)
 eqb-suc j n =
     elim (cases-eq j n) [
-      inl e ↦ eq-eqb j n e ∙ sym (eq-eqb (suc j) (suc n) (ap suc e))
-    | inr ne ↦ ne-eqb j n ne ∙ sym (ne-eqb (suc j) (suc n) (λ e. ne (omega arith)))
+      | inl e ↦ eq-eqb j n e ∙ sym (eq-eqb (suc j) (suc n) (ap suc e))
+      | inr ne ↦ ne-eqb j n ne ∙ sym (ne-eqb (suc j) (suc n) (λ e. ne (omega arith)))
     ]
 
 half-pow : (n : ℕ) → 2 ^ suc n / 2 ≡ 2 ^ n
@@ -103,17 +103,17 @@ pub lowest : (k r : ℕ) → r < 2 ^ k → (r ≡ 0 → ⊥) → Lowest k r
 lowest zero r l ne = absurd (ne (omega arith))
 lowest (suc k) r l ne =
     elim (parity r) [
-      inl e ↦
-        let low = lowest k (r / 2) (half-below k r l) (λ z. ne (omega (arith, div-add-mod' r 2))) in
-        let is = low-even k r e in
-        record {
-          within = omega (arith, low .within);
-          set = rw is (sym (bit-half r _) ∙ low .set);
-          least = rw is (least-even r _ e (low .least))
-        }
-    | inr e ↦
-        let is = low-odd k r e in
-        record { within = omega arith; set = rw is (bit-odd r e); least = λ j b. omega arith }
+      | inl e ↦
+          let low = lowest k (r / 2) (half-below k r l) (λ z. ne (omega (arith, div-add-mod' r 2))) in
+          let is = low-even k r e in
+          record {
+            within = omega (arith, low .within);
+            set = rw is (sym (bit-half r _) ∙ low .set);
+            least = rw is (least-even r _ e (low .least));
+          }
+      | inr e ↦
+          let is = low-odd k r e in
+          record { within = omega arith; set = rw is (bit-odd r e); least = λ j b. omega arith }
     ]
 
 -- numbers with the same bits are the same
@@ -122,10 +122,10 @@ unfolding bit
 same-bits zero a b l m h = omega arith
 same-bits (suc n) a b l m h =
     let rest : a / 2 ≡ b / 2 =
-        same-bits n (a / 2) (b / 2) (half-below n a l) (half-below n b m) (λ j k. h (suc j) (omega arith)) in
+    same-bits n (a / 2) (b / 2) (half-below n a l) (half-below n b m) (λ j k. h (suc j) (omega arith)) in
     let low : a % 2 ≡ b % 2 =
-        elim (parity a) [
-          inl e ↦ elim (parity b) [ inl f ↦ omega arith | inr f ↦ absurd (omega (arith, eqb-true (a % 2) 1 (h 0 (omega arith) ∙ eq-eqb (b % 2) 1 f))) ]
-        | inr e ↦ elim (parity b) [ inl f ↦ absurd (omega (arith, eqb-true (b % 2) 1 (sym (h 0 (omega arith)) ∙ eq-eqb (a % 2) 1 e))) | inr f ↦ omega arith ]
-        ] in
+    elim (parity a) [
+      | inl e ↦ elim (parity b) [ inl f ↦ omega arith | inr f ↦ absurd (omega (arith, eqb-true (a % 2) 1 (h 0 (omega arith) ∙ eq-eqb (b % 2) 1 f))) ]
+      | inr e ↦ elim (parity b) [ inl f ↦ absurd (omega (arith, eqb-true (b % 2) 1 (sym (h 0 (omega arith)) ∙ eq-eqb (a % 2) 1 e))) | inr f ↦ omega arith ]
+    ] in
     omega (arith, div-add-mod' a 2, div-add-mod' b 2)

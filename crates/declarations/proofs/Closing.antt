@@ -53,8 +53,8 @@ module _ (limit : ℕ) (ds : List Declaration) (rows : List ℕ) (ok : sound ds 
     pub nothing-both : both ≡ 0 → (k : ℕ) → Under ds k a → Under ds k b → ⊥
     nothing-both e k u v =
         elim (cases-lt k (length ds)) [
-          inl h ↦ none k (both-bit k h .1 (u, v))
-        | inr h ↦ none 0 (any-both (stray-both k h u v))
+          | inl h ↦ none k (both-bit k h .1 (u, v))
+          | inr h ↦ none 0 (any-both (stray-both k h u v))
         ]
       where
         none : (j : ℕ) → bit both j ≡ true → ⊥
@@ -70,8 +70,8 @@ module _ (limit : ℕ) (ds : List Declaration) (rows : List ℕ) (ok : sound ds 
       pub low-within : low < length ds
       low-within =
           elim (cases-lt (trailingZeros limit both) (length ds)) [
-            inl h ↦ h
-          | inr h ↦ absurd (both-ways _ (bit-past (length ds) both _ both-below h) (low-is .set))
+            | inl h ↦ h
+            | inr h ↦ absurd (both-ways _ (bit-past (length ds) both _ both-below h) (low-is .set))
           ]
 
       low-both : Under ds low a × Under ds low b
@@ -83,10 +83,10 @@ module _ (limit : ℕ) (ds : List Declaration) (rows : List ℕ) (ok : sound ds 
       low-most : row rows low ≡ both → (k : ℕ) → Under ds k a → Under ds k b → Under ds k low
       low-most e k u v =
           elim (cases-lt k (length ds)) [
-            inl h ↦ r .right low k low-within h .0 (ap (λ x. bit x k) e ∙ both-bit k h .1 (u, v))
-          | inr h ↦
-              let z : low ≡ 0 = omega (arith, low-least 0 (any-both (stray-both k h u v))) in
-              rw z (under-any ds ok k)
+            | inl h ↦ r .right low k low-within h .0 (ap (λ x. bit x k) e ∙ both-bit k h .1 (u, v))
+            | inr h ↦
+                let z : low ≡ 0 = omega (arith, low-least 0 (any-both (stray-both k h u v))) in
+                rw z (under-any ds ok k)
           ]
 
       low-widest : row rows low ≡ both → Widest ds a b low
@@ -101,15 +101,15 @@ module _ (limit : ℕ) (ds : List Declaration) (rows : List ℕ) (ok : sound ds 
           let ge = low-least c (both-bit c h .1 (w .first, w .second)) in
           let e : c ≡ low = omega arith in
           same-bits (length ds) (row rows low) both (r .bound low low-within) both-below (λ j k.
-            same-from-decides _ _ (r .right low j low-within k)
-            (decides-like _ (λ p. subst (λ x. Under ds j x) e (w .most j (p .0) (p .1)))
-              (λ u. (under-through ds u (at .0), under-through ds u (at .1))) (both-bit j k)))
+          same-from-decides _ _ (r .right low j low-within k)
+          (decides-like _ (λ p. subst (λ x. Under ds j x) e (w .most j (p .0) (p .1)))
+          (λ u. (under-through ds u (at .0), under-through ds u (at .1))) (both-bit j k)))
 
     pub meets-widest : meets limit rows a b ≡ true → (both ≡ 0 → ⊥) → Widest ds a b low
     meets-widest t ne =
         elim (or-cases _ _ t) [
-          inl e ↦ absurd (ne (eqb-true _ _ e))
-        | inr e ↦ low-widest ne (eqb-true _ _ e)
+          | inl e ↦ absurd (ne (eqb-true _ _ e))
+          | inr e ↦ low-widest ne (eqb-true _ _ e)
         ]
 
     pub not-meets : meets limit rows a b ≡ false → NoWidest ds a b
@@ -123,8 +123,8 @@ module _ (limit : ℕ) (ds : List Declaration) (rows : List ℕ) (ok : sound ds 
     pub meets-not : meets limit rows a b ≡ true → NoWidest ds a b → ⊥
     meets-not t n =
         elim (cases-eq both 0) [
-          inl e ↦ let (k, u, v) = n .0 in nothing-both e k u v
-        | inr ne ↦ n .1 low (meets-widest t ne)
+          | inl e ↦ let (k, u, v) = n .0 in nothing-both e k u v
+          | inr ne ↦ n .1 low (meets-widest t ne)
         ]
 
 meets-at : (limit : ℕ) (rows : List ℕ) (a n : ℕ) → meets-all limit rows a n ≡ true → (b : ℕ) → b < n → meets limit rows a b ≡ true
@@ -169,17 +169,17 @@ swapped ds a b n =
 pub closed-pairs : (limit : ℕ) (ds : List Declaration) (rows : List ℕ) → sound ds ≡ true → Right ds rows → length ds ≤ limit → ((x y : ℕ) → x < y → y < length ds → meets limit rows x y ≡ true) → closed limit rows ≡ true
 closed-pairs limit ds rows ok r few h =
     closed-from limit rows (λ a b l m.
-      elim (cases-bool (meets limit rows a b)) [
-        inl t ↦ t
+    elim (cases-bool (meets limit rows a b)) [
+      | inl t ↦ t
       | inr f ↦ absurd (never a b (omega (arith, r .size)) (omega (arith, r .size)) (not-meets limit ds rows ok r few a b (omega (arith, r .size)) (omega (arith, r .size)) f))
-      ])
+    ])
   where
     never : (a b : ℕ) → a < length ds → b < length ds → NoWidest ds a b → ⊥
     never a b l m n =
         elim (cases-order a b) [
-          inl e ↦ n .1 a (record { first = itself; second = subst (λ x. Under ds a x) e itself; most = λ j u v. u })
-        | inr o ↦ elim o [
-            inl lt ↦ meets-not limit ds rows ok r few a b l m (h a b lt m) n
-          | inr gt ↦ meets-not limit ds rows ok r few b a m l (h b a gt l) (swapped ds a b n)
+          | inl e ↦ n .1 a (record { first = itself; second = subst (λ x. Under ds a x) e itself; most = λ j u v. u })
+          | inr o ↦ elim o [
+            | inl lt ↦ meets-not limit ds rows ok r few a b l m (h a b lt m) n
+            | inr gt ↦ meets-not limit ds rows ok r few b a m l (h b a gt l) (swapped ds a b n)
           ]
         ]

@@ -23,8 +23,8 @@ use Rattle.declarations.proofs.Words.{letter-name, blank-apart, name-some, fro
 pub breaks-apart : (line : List ℕ) (p : ℕ) → Breaks line p → Line line → ⊥
 breaks-apart line p b l =
     elim (b .1) [
-      inl h ↦ h .1 (drop (p + 1) line, subst Line (sym (take-append-drop (p + 1) line)) l)
-    | inr h ↦ h .1 l
+      | inl h ↦ h .1 (drop (p + 1) line, subst Line (sym (take-append-drop (p + 1) line)) l)
+      | inr h ↦ h .1 l
     ]
 
 all-bytes : (bs : List ℕ) → all-name bs ≡ true → All (λ b. name-byte b ≡ true) bs
@@ -77,10 +77,10 @@ module _ (limit : ℕ) (ds : List Declaration) (line : List ℕ) (d : Declaratio
   not-refused e (inr (inr h)) =
       let (l, p, w, is) = h .1 in
       elim w [
-        inl k ↦ both-ways _ (a .fresh) (subst (Known ds) (one-name line l (a .words)) (k .0))
-      | inr u ↦
-          let f = u .1 in
-          both-ways _ (f .unknown) (known-within ds (f .done) (f .word) (f .more) (subst (All (Known ds)) (sym (one-wider line l (a .words)) ∙ f .split) (a .known)))
+        | inl k ↦ both-ways _ (a .fresh) (subst (Known ds) (one-name line l (a .words)) (k .0))
+        | inr u ↦
+            let f = u .1 in
+            both-ways _ (f .unknown) (known-within ds (f .done) (f .word) (f .more) (subst (All (Known ds)) (sym (one-wider line l (a .words)) ∙ f .split) (a .known)))
       ]
 
   -- an accepted line is accepted, and declares this
@@ -129,10 +129,10 @@ front-short line l w rest n e = go (l .wider) (l .some) (l .whole)
     go [] some whole = absurd (omega arith)
     go (v ∷ vs) some whole =
         elim (cases-lt (length (l .name)) (length w)) [
-          inl h ↦
-            absurd (blank-apart _ (front-at line w rest n e (length (l .name)) h)
+          | inl h ↦
+              absurd (blank-apart _ (front-at line w rest n e (length (l .name)) h)
               (ap (λ b. getD b (length (l .name)) 0) whole ∙ getD-at (l .name) 32 (v ++ tail vs) 0 (length (l .name)) refl))
-        | inr h ↦ h
+          | inr h ↦ h
         ]
 
 pub accepts-is : (limit : ℕ) (ds : List Declaration) (name : List ℕ) (ws : List (List ℕ)) → accepts limit ds name ws ≡ true → Accepts limit ds (name ++ tail ws) (record { name = name; wider = numbers ds ws })
@@ -151,7 +151,7 @@ accepts-is limit ds name ws h =
       fresh = not-true _ (g .0);
       known = listed-all ds ws (g .1);
       name = refl;
-      wider = refl
+      wider = refl;
     }
   where
     much : (l : Line (name ++ tail ws)) → length (name ++ tail ws) ≤ 1000 → length (l .name) ≤ 24 → length ds < limit → TooMuch limit ds (name ++ tail ws) → ⊥

@@ -78,10 +78,10 @@ le-of-under before {k} (above {w = w} a u) = omega (arith, before k w a, le-of-u
 grown-old : (n mask r j : ℕ) → j < n → bit (grown n mask r) j ≡ bit r j
 grown-old n mask r j l =
     elim (cases-bool (eqb (bitAnd r mask) 0)) [
-      inl t ↦ ap (λ v. bit v j) (cond-true _ r (bitOr r (2 ^ n)) t)
-    | inr f ↦
-        ap (λ v. bit v j) (cond-false _ r (bitOr r (2 ^ n)) f) ∙ bit-or r (2 ^ n) j
-        ∙ old (bit r j) (bit (2 ^ n) j) (bit-pow n j ∙ ne-eqb j n (omega arith))
+      | inl t ↦ ap (λ v. bit v j) (cond-true _ r (bitOr r (2 ^ n)) t)
+      | inr f ↦
+          ap (λ v. bit v j) (cond-false _ r (bitOr r (2 ^ n)) f) ∙ bit-or r (2 ^ n) j
+          ∙ old (bit r j) (bit (2 ^ n) j) (bit-pow n j ∙ ne-eqb j n (omega arith))
     ]
   where
     old : (x y : Bool) → y ≡ false → (x || y) ≡ x
@@ -91,21 +91,21 @@ grown-old n mask r j l =
 grown-new : (n mask r : ℕ) → r < 2 ^ n → Decides (bit (grown n mask r) n) (bitAnd r mask ≡ 0 → ⊥)
 grown-new n mask r l =
     elim (cases-eq (bitAnd r mask) 0) [
-      inl e ↦
-        let is = ap (λ v. bit v n) (cond-true _ r (bitOr r (2 ^ n)) (eq-eqb _ _ e)) ∙ bit-past n r n l (omega arith) in
-        (λ t. absurd (both-ways _ is t), λ ne. absurd (ne e))
-    | inr ne ↦
-        let is = ap (λ v. bit v n) (cond-false _ r (bitOr r (2 ^ n)) (ne-eqb _ _ ne)) ∙ bit-or r (2 ^ n) n
-            ∙ or-right (bit r n) (bit (2 ^ n) n) (bit-pow n n ∙ eq-eqb n n refl) in
-        (λ _. ne, λ _. is)
+      | inl e ↦
+          let is = ap (λ v. bit v n) (cond-true _ r (bitOr r (2 ^ n)) (eq-eqb _ _ e)) ∙ bit-past n r n l (omega arith) in
+          (λ t. absurd (both-ways _ is t), λ ne. absurd (ne e))
+      | inr ne ↦
+          let is = ap (λ v. bit v n) (cond-false _ r (bitOr r (2 ^ n)) (ne-eqb _ _ ne)) ∙ bit-or r (2 ^ n) n
+          ∙ or-right (bit r n) (bit (2 ^ n) n) (bit-pow n n ∙ eq-eqb n n refl) in
+          (λ _. ne, λ _. is)
     ]
 
 grown-bound : (n mask r : ℕ) → r < 2 ^ n → grown n mask r < 2 ^ suc n
 grown-bound n mask r l =
     let p = pow-suc 2 n in
     elim (cases-bool (eqb (bitAnd r mask) 0)) [
-      inl t ↦ rw (cond-true _ r (bitOr r (2 ^ n)) t) (omega arith)
-    | inr f ↦ rw (cond-false _ r (bitOr r (2 ^ n)) f) (or-lt (suc n) r (2 ^ n) (omega arith) (pow-below n (suc n) (omega arith)))
+      | inl t ↦ rw (cond-true _ r (bitOr r (2 ^ n)) t) (omega arith)
+      | inr f ↦ rw (cond-false _ r (bitOr r (2 ^ n)) f) (or-lt (suc n) r (2 ^ n) (omega arith) (pow-below n (suc n) (omega arith)))
     ]
 
 module _ (ds : List Declaration) (d : Declaration) (rows : List ℕ) (r : Right ds rows)
@@ -132,15 +132,15 @@ module _ (ds : List Declaration) (d : Declaration) (rows : List ℕ) (r : Right 
   new-bit i l =
       let g = grown-new (length ds) (mask-of (d .wider)) (row rows i) (r .bound i l) in (
         λ t.
-          let (w, lt, a, b) = share (length ds) (row rows i) (mask-of (d .wider)) (r .bound i l) (g .0 t) in
-          new-under ds d before inside w i (sym (bit-mask (d .wider) w) ∙ b) (r .right i w l lt .0 a),
+            let (w, lt, a, b) = share (length ds) (row rows i) (mask-of (d .wider)) (r .bound i l) (g .0 t) in
+            new-under ds d before inside w i (sym (bit-mask (d .wider) w) ∙ b) (r .right i w l lt .0 a),
         λ u.
-          g .1 (λ e.
+            g .1 (λ e.
             elim (under-new ds d before inside (length ds) i refl u) [
-              inl z ↦ omega arith
-            | inr q ↦
-                let (w, a, v) = q in
-                shared (row rows i) (mask-of (d .wider)) w (r .right i w l (inside w a) .1 v) (bit-mask (d .wider) w ∙ a) e
+              | inl z ↦ omega arith
+              | inr q ↦
+                  let (w, a, v) = q in
+                  shared (row rows i) (mask-of (d .wider)) w (r .right i w l (inside w a) .1 v) (bit-mask (d .wider) w ∙ a) e
             ]),
       )
 
@@ -148,36 +148,37 @@ module _ (ds : List Declaration) (d : Declaration) (rows : List ℕ) (r : Right 
   bound-more i l =
       let s : length (ds ++ d ∷ []) ≡ suc (length ds) = size-more ∙ add-one (length ds) in
       rw s (elim (cases-lt i (length ds)) [
-        inl h ↦ rw (old-row i h) (grown-bound (length ds) (mask-of (d .wider)) (row rows i) (r .bound i h))
-      | inr h ↦
-          let e : i ≡ length ds = omega arith in
-          rw (e, new-row) (pow-below (length ds) (suc (length ds)) (omega arith))
+        | inl h ↦ rw (old-row i h) (grown-bound (length ds) (mask-of (d .wider)) (row rows i) (r .bound i h))
+        | inr h ↦
+            let e : i ≡ length ds = omega arith in
+            rw (e, new-row) (pow-below (length ds) (suc (length ds)) (omega arith))
       ])
 
   right-more : (i j : ℕ) → i < length (ds ++ d ∷ []) → j < length (ds ++ d ∷ []) → Decides (bit (row (add-row rows (mask-of (d .wider))) i) j) (Under (ds ++ d ∷ []) j i)
   right-more i j l m =
       let s = size-more in
       elim (cases-lt i (length ds)) [
-        inl h ↦
-          rw (old-row i h) (elim (cases-lt j (length ds)) [
-            inl k ↦
-              let e = grown-old (length ds) (mask-of (d .wider)) (row rows i) j k in
-              (λ t. under-more ds d before k (r .right i j h k .0 (sym e ∙ t)), λ u. e ∙ r .right i j h k .1 (under-less ds d before k u))
-          | inr k ↦ let e : j ≡ length ds = omega arith in rw e (new-bit i h)
-          ])
-      | inr h ↦
-          let e : i ≡ length ds = omega arith in
-          let is : bit (row (add-row rows (mask-of (d .wider))) i) j ≡ eqb j (length ds) = ap (λ v. bit (row (add-row rows (mask-of (d .wider))) v) j) e ∙ ap (λ v. bit v j) new-row ∙ bit-pow (length ds) j in
-          (λ t. let q : j ≡ i = eqb-true j (length ds) (sym is ∙ t) ∙ sym e in rw q itself,
-           λ u. is ∙ eq-eqb j (length ds) (new-only j i e m u))
+        | inl h ↦
+            rw (old-row i h) (elim (cases-lt j (length ds)) [
+              | inl k ↦
+                  let e = grown-old (length ds) (mask-of (d .wider)) (row rows i) j k in
+                  (λ t. under-more ds d before k (r .right i j h k .0 (sym e ∙ t)), λ u. e ∙ r .right i j h k .1 (under-less ds d before k u))
+              | inr k ↦ let e : j ≡ length ds = omega arith in rw e (new-bit i h)
+            ])
+        | inr h ↦
+            let e : i ≡ length ds = omega arith in
+            let is : bit (row (add-row rows (mask-of (d .wider))) i) j ≡ eqb j (length ds) = ap (λ v. bit (row (add-row rows (mask-of (d .wider))) v) j) e ∙ ap (λ v. bit v j) new-row ∙ bit-pow (length ds) j in (
+              λ t. let q : j ≡ i = eqb-true j (length ds) (sym is ∙ t) ∙ sym e in rw q itself,
+              λ u. is ∙ eq-eqb j (length ds) (new-only j i e m u),
+            )
       ]
     where
       -- nothing but itself is at or under the newest kind
       new-only : (j i : ℕ) → i ≡ length ds → j < length (ds ++ d ∷ []) → Under (ds ++ d ∷ []) j i → j ≡ length ds
       new-only j i e m u =
           elim (cases-lt j (length ds)) [
-            inl k ↦ absurd (omega (arith, le-of-under before (under-less ds d before k u)))
-          | inr k ↦ omega (arith, size-more)
+            | inl k ↦ absurd (omega (arith, le-of-under before (under-less ds d before k u)))
+            | inr k ↦ omega (arith, size-more)
           ]
 
   pub right-push : Right (ds ++ d ∷ []) (add-row rows (mask-of (d .wider)))
@@ -185,7 +186,7 @@ module _ (ds : List Declaration) (d : Declaration) (rows : List ℕ) (r : Right 
       record {
         size = length-push (map (grown (length rows) (mask-of (d .wider))) rows) (2 ^ length rows) ∙ ap (λ n. n + 1) (length-map rows (grown (length rows) (mask-of (d .wider))) ∙ r .size) ∙ sym size-more;
         bound = bound-more;
-        right = right-more
+        right = right-more;
       }
 
 inside-of : (before : List Declaration) (d : Declaration) → follows before d ≡ true → (w : ℕ) → among w (d .wider) ≡ true → w < length before
@@ -206,7 +207,7 @@ right-any d e =
     record {
       size = refl;
       bound = elim [ zero ↦ λ l. omega arith | suc i ↦ λ l. absurd (omega arith) ];
-      right = λ i j l m. let a : i ≡ 0 = omega arith in let b : j ≡ 0 = omega arith in rw (a, b) (λ _. itself, λ _. refl)
+      right = λ i j l m. let a : i ≡ 0 = omega arith in let b : j ≡ 0 = omega arith in rw (a, b) (λ _. itself, λ _. refl);
     }
 
 -- the rows of sound declarations

@@ -22,10 +22,10 @@ use Rattle.declarations.proofs.Words.{name-some, letter-name}
 name-part : (b : ℕ) → name-byte b ≡ true → part-byte b ≡ true
 name-part b h =
     elim (or-cases (letter b) _ h) [
-      inl l ↦ or-left (letter b) _ l
-    | inr r ↦ elim (or-cases (leb 48 b && leb b 57) _ r) [
-        inl d ↦ or-right (letter b) _ (or-left (leb 48 b && leb b 57) _ d)
-      | inr u ↦ or-right (letter b) _ (or-right (leb 48 b && leb b 57) _ (or-left (eqb b 95) _ u))
+      | inl l ↦ or-left (letter b) _ l
+      | inr r ↦ elim (or-cases (leb 48 b && leb b 57) _ r) [
+        | inl d ↦ or-right (letter b) _ (or-left (leb 48 b && leb b 57) _ d)
+        | inr u ↦ or-right (letter b) _ (or-right (leb 48 b && leb b 57) _ (or-left (eqb b 95) _ u))
       ]
     ]
 
@@ -51,11 +51,11 @@ text-here ds k l = cond-true _ (Some (name-of ds k)) None (lt-ltb k (length ds) 
 pub text-name : (ds : List Declaration) (k : ℕ) (t : List ℕ) → name-text ds k ≡ Some t → (k < length ds) × (name-of ds k ≡ t)
 text-name ds k t e =
     elim (cases-bool (ltb k (length ds))) [
-      inl l ↦ let same : Some (name-of ds k) ≡ Some t = sym (cond-true _ (Some (name-of ds k)) None l) ∙ e in (ltb-true k (length ds) l, cc)
-    | inr f ↦
-        let none : _≡_ {A = Option (List ℕ)} None (Some t) = sym (cond-false _ (Some (name-of ds k)) None f) ∙ e in
-        let z : _≡_ {A = ℕ} 0 1 = cc in
-        absurd (omega arith)
+      | inl l ↦ let same : Some (name-of ds k) ≡ Some t = sym (cond-true _ (Some (name-of ds k)) None l) ∙ e in (ltb-true k (length ds) l, cc)
+      | inr f ↦
+          let none : _≡_ {A = Option (List ℕ)} None (Some t) = sym (cond-false _ (Some (name-of ds k)) None f) ∙ e in
+          let z : _≡_ {A = ℕ} 0 1 = cc in
+          absurd (omega arith)
     ]
 
 module _ (ds : List Declaration) (ok : sound ds ≡ true) where

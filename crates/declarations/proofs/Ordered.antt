@@ -25,12 +25,12 @@ module _ (ds : List Declaration) (ok : sound ds ≡ true) where
   pub strays-common : (a b : ℕ) → (length ds ≤ a) ⊎ (length ds ≤ b) → IsCommon (Under ds) a b (stray-common a b)
   strays-common a b s =
       elim (cases-eq a b) [
-        inl e ↦ rw (cond-true _ (Some a) _ (eq-eqb a b e)) (itself, subst (λ x. Under ds a x) e itself, λ k u v. u)
-      | inr ne ↦ rw (cond-false _ (Some a) _ (ne-eqb a b ne)) (elim (cases-eq a 0) [
-          inl e ↦ rw (cond-true _ (Some b) _ (eq-eqb a 0 e)) (rw e (under-any ds ok b), itself, λ k u v. v)
-        | inr na ↦ rw (cond-false _ (Some b) _ (ne-eqb a 0 na)) (elim (cases-eq b 0) [
-            inl e ↦ rw (cond-true _ (Some a) None (eq-eqb b 0 e)) (itself, rw e (under-any ds ok a), λ k u v. u)
-          | inr nb ↦ rw (cond-false _ (Some a) None (ne-eqb b 0 nb)) (λ k u v. apart k ne na nb u v s)
+        | inl e ↦ rw (cond-true _ (Some a) _ (eq-eqb a b e)) (itself, subst (λ x. Under ds a x) e itself, λ k u v. u)
+        | inr ne ↦ rw (cond-false _ (Some a) _ (ne-eqb a b ne)) (elim (cases-eq a 0) [
+          | inl e ↦ rw (cond-true _ (Some b) _ (eq-eqb a 0 e)) (rw e (under-any ds ok b), itself, λ k u v. v)
+          | inr na ↦ rw (cond-false _ (Some b) _ (ne-eqb a 0 na)) (elim (cases-eq b 0) [
+            | inl e ↦ rw (cond-true _ (Some a) None (eq-eqb b 0 e)) (itself, rw e (under-any ds ok a), λ k u v. u)
+            | inr nb ↦ rw (cond-false _ (Some a) None (ne-eqb b 0 nb)) (λ k u v. apart k ne na nb u v s)
           ])
         ])
       ]
@@ -59,19 +59,19 @@ module _ (limit : ℕ) (ds : List Declaration) (rows : List ℕ) (ok : sound ds 
       cond-both (eqb (bitAnd (row rows a) (row rows b)) 0) None (Some (trailingZeros limit (bitAnd (row rows a) (row rows b)))) (IsCommon (Under ds) a b)
       (λ t. nothing-both limit ds rows ok r few a b l m (eqb-true _ _ t))
       (λ f.
-        let meet = closed-meets limit rows c a b (omega (arith, r .size)) (omega (arith, r .size)) in
-        let w = meets-widest limit ds rows ok r few a b l m meet (eqb-false _ _ f) in
-        (w .first, w .second, w .most))
+      let meet = closed-meets limit rows c a b (omega (arith, r .size)) (omega (arith, r .size)) in
+      let w = meets-widest limit ds rows ok r few a b l m meet (eqb-false _ _ f) in
+      (w .first, w .second, w .most))
 
   pub common-holds : (a b : ℕ) → IsCommon (Under ds) a b (common-in limit rows a b)
   common-holds a b =
       let s = r .size in
       elim (cases-lt a (length ds)) [
-        inl l ↦ elim (cases-lt b (length ds)) [
-          inl m ↦ rw (cond-true (ltb a (length rows) && ltb b (length rows)) (lowest-in limit (bitAnd (row rows a) (row rows b))) (stray-common a b) (and-from _ _ (lt-ltb a (length rows) (omega arith)) (lt-ltb b (length rows) (omega arith)))) (kinds-common a b l m)
-        | inr m ↦ rw (cond-false (ltb a (length rows) && ltb b (length rows)) (lowest-in limit (bitAnd (row rows a) (row rows b))) (stray-common a b) (and-right _ _ (le-ltb b (length rows) (omega arith)))) (strays-common ds ok a b (inr m))
+        | inl l ↦ elim (cases-lt b (length ds)) [
+          | inl m ↦ rw (cond-true (ltb a (length rows) && ltb b (length rows)) (lowest-in limit (bitAnd (row rows a) (row rows b))) (stray-common a b) (and-from _ _ (lt-ltb a (length rows) (omega arith)) (lt-ltb b (length rows) (omega arith)))) (kinds-common a b l m)
+          | inr m ↦ rw (cond-false (ltb a (length rows) && ltb b (length rows)) (lowest-in limit (bitAnd (row rows a) (row rows b))) (stray-common a b) (and-right _ _ (le-ltb b (length rows) (omega arith)))) (strays-common ds ok a b (inr m))
         ]
-      | inr l ↦ rw (cond-false (ltb a (length rows) && ltb b (length rows)) (lowest-in limit (bitAnd (row rows a) (row rows b))) (stray-common a b) (and-left _ _ (le-ltb a (length rows) (omega arith)))) (strays-common ds ok a b (inl l))
+        | inr l ↦ rw (cond-false (ltb a (length rows) && ltb b (length rows)) (lowest-in limit (bitAnd (row rows a) (row rows b))) (stray-common a b) (and-left _ _ (le-ltb a (length rows) (omega arith)))) (strays-common ds ok a b (inl l))
       ]
 
 -- the meaning of sound declarations whose rows are closed
@@ -85,5 +85,5 @@ order-of limit ds ok few c =
       widest-is = under-any ds ok;
       through = λ k l m u v. under-through ds u v;
       same = under-same ds ok;
-      common-is = common-holds limit ds (rows-of ds) ok (rows-right ds ok) few c
+      common-is = common-holds limit ds (rows-of ds) ok (rows-right ds ok) few c;
     }

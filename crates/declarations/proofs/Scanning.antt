@@ -107,43 +107,43 @@ rest Blank [] e = absurd (let z : _≡_ {A = ℕ} 0 1 = cc (wrong-end Blank e) i
 rest Wider [] e = ([], [], refl, tt, refl)
 rest Start (b ∷ bs) e =
     elim (cases-bool (letter b)) [
-      inl t ↦
-        let (w, ws, a, all, some, is) = rest Name bs (after Start b bs (Some Name) (cond-true _ (Some Name) None t) e) in
-        record { name = b ∷ w; wider = ws; named = and-from _ _ t a; each = all; some = some; whole = ap (λ x. b ∷ x) is }
-    | inr f ↦ absurd (none-some Wider (after Start b bs None (cond-false _ (Some Name) None f) e))
+      | inl t ↦
+          let (w, ws, a, all, some, is) = rest Name bs (after Start b bs (Some Name) (cond-true _ (Some Name) None t) e) in
+          record { name = b ∷ w; wider = ws; named = and-from _ _ t a; each = all; some = some; whole = ap (λ x. b ∷ x) is }
+      | inr f ↦ absurd (none-some Wider (after Start b bs None (cond-false _ (Some Name) None f) e))
     ]
 rest Name (b ∷ bs) e =
     elim (cases-bool (name-byte b)) [
-      inl t ↦
-        let (w, ws, a, all, some, is) = rest Name bs (after Name b bs (Some Name) (cond-true _ (Some Name) _ t) e) in
-        (b ∷ w, ws, and-from _ _ t a, all, some, ap (λ x. b ∷ x) is)
-    | inr f ↦
-        elim (cases-bool (eqb b 32)) [
-          inl s ↦
-            let (w, ws, n, all, is) = rest Blank bs (after Name b bs (Some Blank) (cond-false _ (Some Name) _ f ∙ cond-true _ (Some Blank) None s) e) in
-            ([], w ∷ ws, refl, (n, all), omega arith, ap (λ x. x ∷ bs) (eqb-true b 32 s) ∙ ap (λ x. 32 ∷ x) is)
-        | inr s ↦ absurd (none-some Wider (after Name b bs None (cond-false _ (Some Name) _ f ∙ cond-false _ (Some Blank) None s) e))
-        ]
+      | inl t ↦
+          let (w, ws, a, all, some, is) = rest Name bs (after Name b bs (Some Name) (cond-true _ (Some Name) _ t) e) in
+          (b ∷ w, ws, and-from _ _ t a, all, some, ap (λ x. b ∷ x) is)
+      | inr f ↦
+          elim (cases-bool (eqb b 32)) [
+            | inl s ↦
+                let (w, ws, n, all, is) = rest Blank bs (after Name b bs (Some Blank) (cond-false _ (Some Name) _ f ∙ cond-true _ (Some Blank) None s) e) in
+                ([], w ∷ ws, refl, (n, all), omega arith, ap (λ x. x ∷ bs) (eqb-true b 32 s) ∙ ap (λ x. 32 ∷ x) is)
+            | inr s ↦ absurd (none-some Wider (after Name b bs None (cond-false _ (Some Name) _ f ∙ cond-false _ (Some Blank) None s) e))
+          ]
     ]
 rest Blank (b ∷ bs) e =
     elim (cases-bool (letter b)) [
-      inl t ↦
-        let (w, ws, a, all, is) = rest Wider bs (after Blank b bs (Some Wider) (cond-true _ (Some Wider) None t) e) in
-        (b ∷ w, ws, and-from _ _ t a, all, ap (λ x. b ∷ x) is)
-    | inr f ↦ absurd (none-some Wider (after Blank b bs None (cond-false _ (Some Wider) None f) e))
+      | inl t ↦
+          let (w, ws, a, all, is) = rest Wider bs (after Blank b bs (Some Wider) (cond-true _ (Some Wider) None t) e) in
+          (b ∷ w, ws, and-from _ _ t a, all, ap (λ x. b ∷ x) is)
+      | inr f ↦ absurd (none-some Wider (after Blank b bs None (cond-false _ (Some Wider) None f) e))
     ]
 rest Wider (b ∷ bs) e =
     elim (cases-bool (name-byte b)) [
-      inl t ↦
-        let (w, ws, a, all, is) = rest Wider bs (after Wider b bs (Some Wider) (cond-true _ (Some Wider) _ t) e) in
-        (b ∷ w, ws, and-from _ _ t a, all, ap (λ x. b ∷ x) is)
-    | inr f ↦
-        elim (cases-bool (eqb b 32)) [
-          inl s ↦
-            let (w, ws, n, all, is) = rest Blank bs (after Wider b bs (Some Blank) (cond-false _ (Some Wider) _ f ∙ cond-true _ (Some Blank) None s) e) in
-            ([], w ∷ ws, refl, (n, all), ap (λ x. x ∷ bs) (eqb-true b 32 s) ∙ ap (λ x. 32 ∷ x) is)
-        | inr s ↦ absurd (none-some Wider (after Wider b bs None (cond-false _ (Some Wider) _ f ∙ cond-false _ (Some Blank) None s) e))
-        ]
+      | inl t ↦
+          let (w, ws, a, all, is) = rest Wider bs (after Wider b bs (Some Wider) (cond-true _ (Some Wider) _ t) e) in
+          (b ∷ w, ws, and-from _ _ t a, all, ap (λ x. b ∷ x) is)
+      | inr f ↦
+          elim (cases-bool (eqb b 32)) [
+            | inl s ↦
+                let (w, ws, n, all, is) = rest Blank bs (after Wider b bs (Some Blank) (cond-false _ (Some Wider) _ f ∙ cond-true _ (Some Blank) None s) e) in
+                ([], w ∷ ws, refl, (n, all), ap (λ x. x ∷ bs) (eqb-true b 32 s) ∙ ap (λ x. 32 ∷ x) is)
+            | inr s ↦ absurd (none-some Wider (after Wider b bs None (cond-false _ (Some Wider) _ f ∙ cond-false _ (Some Blank) None s) e))
+          ]
     ]
 
 pub runs-lawful : (line : List ℕ) → runs Start line ≡ Some Wider → Line line

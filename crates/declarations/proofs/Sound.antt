@@ -20,8 +20,8 @@ among-below n w [] a m = absurd (both-ways false refl m)
 among-below n w (x ∷ xs) a m =
     let p = and-parts (ltb x n) (all-below n xs) a in
     elim (or-cases (eqb w x) (among w xs) m) [
-      inl e ↦ omega (arith, eqb-true w x e, ltb-true x n (p .0))
-    | inr h ↦ among-below n w xs (p .1) h
+      | inl e ↦ omega (arith, eqb-true w x e, ltb-true x n (p .0))
+      | inr h ↦ among-below n w xs (p .1) h
     ]
 
 among-some : (xs : List ℕ) → ltb 0 (length xs) ≡ true → (w : ℕ) × (among w xs ≡ true)
@@ -41,15 +41,15 @@ unfolding listed
 listed-is [] w h = absurd (both-ways false refl h)
 listed-is (d ∷ ds) w h =
     elim (or-cases (sameBytes w (d .name)) (listed w (names ds)) h) [
-      inl e ↦ (0, omega arith, sym (sameBytes-decides w (d .name) .0 e))
-    | inr m ↦ let (k, l, e) = listed-is ds w m in (suc k, omega arith, e)
+      | inl e ↦ (0, omega arith, sym (sameBytes-decides w (d .name) .0 e))
+      | inr m ↦ let (k, l, e) = listed-is ds w m in (suc k, omega arith, e)
     ]
 
 pub not-listed : (ds : List Declaration) (w : List ℕ) → ((k : ℕ) → k < length ds → name-of ds k ≡ w → ⊥) → listed w (names ds) ≡ false
 not-listed ds w h =
     elim (cases-bool (listed w (names ds))) [
-      inl t ↦ absurd (let (k, l, e) = listed-is ds w t in h k l e)
-    | inr f ↦ f
+      | inl t ↦ absurd (let (k, l, e) = listed-is ds w t in h k l e)
+      | inr f ↦ f
     ]
 
 -- what `follows` says, part by part
@@ -116,22 +116,22 @@ module _ (ds : List Declaration) (ok : sound ds ≡ true) where
   unfolding among
   earlier k w m =
       elim (cases-lt k (length ds)) [
-        inl l ↦ elim (cases-lt 0 k) [
-          inl p ↦
-            let f = sound-at ds ok k p l in
-            omega (arith, among-below (length (take k ds)) w (getD ds k stray .wider) (f .earlier) m, length-take-le k ds (omega arith))
-        | inr z ↦
-            let e : k ≡ 0 = omega arith in
-            let none : wider-of ds k ≡ [] = ap (wider-of ds) e ∙ first-wider ds ok in
-            absurd (both-ways false refl (rw none at m))
+        | inl l ↦ elim (cases-lt 0 k) [
+          | inl p ↦
+              let f = sound-at ds ok k p l in
+              omega (arith, among-below (length (take k ds)) w (getD ds k stray .wider) (f .earlier) m, length-take-le k ds (omega arith))
+          | inr z ↦
+              let e : k ≡ 0 = omega arith in
+              let none : wider-of ds k ≡ [] = ap (wider-of ds) e ∙ first-wider ds ok in
+              absurd (both-ways false refl (rw none at m))
         ]
-      | inr g ↦
-          let e : wider-of ds k ≡ 0 ∷ [] = ap (λ d. d .wider) (getD-past ds k stray g) in
-          let s = sound-some ds ok in
-          elim (or-cases (eqb w 0) false (rw e at m)) [
-            inl z ↦ omega (arith, eqb-true w 0 z)
-          | inr z ↦ absurd (both-ways false refl z)
-          ]
+        | inr g ↦
+            let e : wider-of ds k ≡ 0 ∷ [] = ap (λ d. d .wider) (getD-past ds k stray g) in
+            let s = sound-some ds ok in
+            elim (or-cases (eqb w 0) false (rw e at m)) [
+              | inl z ↦ omega (arith, eqb-true w 0 z)
+              | inr z ↦ absurd (both-ways false refl z)
+            ]
       ]
 
   -- and there is one
@@ -139,16 +139,16 @@ module _ (ds : List Declaration) (ok : sound ds ≡ true) where
   unfolding among
   some-wider k p =
       elim (cases-lt k (length ds)) [
-        inl l ↦ among-some (getD ds k stray .wider) (sound-at ds ok k p l .some)
-      | inr g ↦ (0, rw (ap (λ d. d .wider) (getD-past ds k stray g)) refl)
+        | inl l ↦ among-some (getD ds k stray .wider) (sound-at ds ok k p l .some)
+        | inr g ↦ (0, rw (ap (λ d. d .wider) (getD-past ds k stray g)) refl)
       ]
 
   pub is-named : (k : ℕ) → k < length ds → is-name (name-of ds k) ≡ true
   unfolding all-name
   is-named k l =
       elim (cases-lt 0 k) [
-        inl p ↦ sound-at ds ok k p l .named
-      | inr z ↦ let e : k ≡ 0 = omega arith in rw (e, first-name ds ok) refl
+        | inl p ↦ sound-at ds ok k p l .named
+        | inr z ↦ let e : k ≡ 0 = omega arith in rw (e, first-name ds ok) refl
       ]
 
   earlier-name : (i j : ℕ) → i < j → j < length ds → name-of ds i ≡ name-of ds j → ⊥
@@ -162,6 +162,6 @@ module _ (ds : List Declaration) (ok : sound ds ≡ true) where
   pub same-name : (i j : ℕ) → i < length ds → j < length ds → name-of ds i ≡ name-of ds j → i ≡ j
   same-name i j l m e =
       elim (cases-order i j) [
-        inl s ↦ s
-      | inr o ↦ elim o [ inl h ↦ absurd (earlier-name i j h m e) | inr h ↦ absurd (earlier-name j i h l (sym e)) ]
+        | inl s ↦ s
+        | inr o ↦ elim o [ inl h ↦ absurd (earlier-name i j h m e) | inr h ↦ absurd (earlier-name j i h l (sym e)) ]
       ]

@@ -9,7 +9,7 @@ use lib.Dec.{eqb, leb}
 use lib.ListN.{length, getD, take, drop, length-append, length-drop}
 use Rattle.std.proofs.shelf.Lists.{getD-append-left, getD-append-right, getD-drop, take-more}
 use Rattle.std.proofs.shelf.Tests.{and-parts, and-from, or-left, both-ways, cases-lt, cases-order}
-use Rattle.declarations.specs.Lines.{tail}
+use Rattle.declarations.specs.Lines.{tail, WordEnd}
 use Rattle.declarations.specs.Names.{letter, name-byte, all-name, is-name}
 
 pub letter-name : (b : ℕ) → letter b ≡ true → name-byte b ≡ true
@@ -63,8 +63,8 @@ module _ (line name rest : List ℕ) (n : is-name name ≡ true) (e : line ≡ n
 pub name-more : (line : List ℕ) (i : ℕ) → i < length line → (0 < i → is-name (take i line) ≡ true) → (0 < i → name-byte (getD line i 0) ≡ true) → (i ≡ 0 → letter (getD line 0 0) ≡ true) → is-name (take (i + 1) line) ≡ true
 name-more line i l h m f =
     elim (cases-lt 0 i) [
-      inl p ↦ rw (take-more line i 0 l) (name-push (take i line) (getD line i 0) (h p) (m p))
-    | inr z ↦ let e : i ≡ 0 = omega arith in rw e (rw (take-more line 0 0 (omega arith)) (name-one (getD line 0 0) (f e)))
+      | inl p ↦ rw (take-more line i 0 l) (name-push (take i line) (getD line i 0) (h p) (m p))
+      | inr z ↦ let e : i ≡ 0 = omega arith in rw e (rw (take-more line 0 0 (omega arith)) (name-one (getD line 0 0) (f e)))
     ]
 
 tail-first : (ws : List (List ℕ)) → 0 < length (tail ws) → getD (tail ws) 0 0 ≡ 32
@@ -79,12 +79,12 @@ sub-self n = omega arith
 pub name-most : (line : List ℕ) (i : ℕ) → (0 < i → name-byte (getD line i 0) ≡ false) → (i ≡ 0 → letter (getD line 0 0) ≡ false) → (name rest : List ℕ) → is-name name ≡ true → line ≡ name ++ rest → length name ≤ i
 name-most line i m f name rest n e =
     elim (cases-lt i (length name)) [
-      inl l ↦
-        elim (cases-lt 0 i) [
-          inl p ↦ absurd (both-ways _ (m p) (front-at line name rest n e i l))
-        | inr z ↦ absurd (both-ways _ (f (omega arith)) (front-first line name rest n e))
-        ]
-    | inr l ↦ l
+      | inl l ↦
+          elim (cases-lt 0 i) [
+            | inl p ↦ absurd (both-ways _ (m p) (front-at line name rest n e i l))
+            | inr z ↦ absurd (both-ways _ (f (omega arith)) (front-first line name rest n e))
+          ]
+      | inr l ↦ l
     ]
 
 -- a word of a line that goes on with more words
@@ -95,7 +95,7 @@ module _ (line : List ℕ) (start : ℕ) (w : List ℕ) (ws : List (List ℕ)) (
   word-byte : (k : ℕ) → k < length w → getD line (start + k) 0 ≡ 32 → ⊥
   word-byte k l b =
       let at : getD line (start + k) 0 ≡ getD w k 0 =
-          sym (getD-drop start line k 0) ∙ ap (λ x. getD x k 0) e ∙ getD-append-left w (tail ws) 0 k l in
+      sym (getD-drop start line k 0) ∙ ap (λ x. getD x k 0) e ∙ getD-append-left w (tail ws) 0 k l in
       blank-apart (getD w k 0) (name-at w k n l) (sym at ∙ b)
 
   -- more words begin with a blank
@@ -107,18 +107,29 @@ module _ (line : List ℕ) (start : ℕ) (w : List ℕ) (ws : List (List ℕ)) (
   pub word-found : (i : ℕ) → start ≤ i → i < length line → getD line i 0 ≡ 32 → ((k : ℕ) → start ≤ k → k < i → getD line k 0 ≡ 32 → ⊥) → i ≡ start + length w
   word-found i s l b none =
       elim (cases-order i (start + length w)) [
-        inl h ↦ h
-      | inr o ↦ elim o [
-          inl h ↦
-            let k : start + (i - start) ≡ i = omega arith in
-            absurd (word-byte (i - start) (omega arith) (ap (λ x. getD line x 0) k ∙ b))
-        | inr h ↦ absurd (none (start + length w) (omega arith) h (word-blank (omega (arith, word-length))))
+        | inl h ↦ h
+        | inr o ↦ elim o [
+          | inl h ↦
+              let k : start + (i - start) ≡ i = omega arith in
+              absurd (word-byte (i - start) (omega arith) (ap (λ x. getD line x 0) k ∙ b))
+          | inr h ↦ absurd (none (start + length w) (omega arith) h (word-blank (omega (arith, word-length))))
         ]
       ]
 
   pub word-last : (i : ℕ) → length line ≤ i → ((k : ℕ) → start ≤ k → k < i → getD line k 0 ≡ 32 → ⊥) → length line ≡ start + length w
   word-last i l none =
       elim (cases-lt 0 (length (tail ws))) [
-        inl h ↦ absurd (none (start + length w) (omega arith) (omega (arith, word-length)) (word-blank h))
-      | inr h ↦ omega (arith, word-length)
+        | inl h ↦ absurd (none (start + length w) (omega arith) (omega (arith, word-length)) (word-blank h))
+        | inr h ↦ omega (arith, word-length)
       ]
+
+  -- so the word's end is the word's end
+  pub word-ends : (n : ℕ) → WordEnd line start n → n ≡ start + length w
+  word-ends n e =
+      elim (e .end) [
+        | inl all ↦ all ∙ word-last n (omega arith) (e .before)
+        | inr h ↦ word-found n (h .0) (h .1) (h .2) (e .before)
+      ]
+
+pub word-within : (line : List ℕ) (start n : ℕ) → WordEnd line start n → start ≤ length line → (start ≤ n) × (n ≤ length line)
+word-within line start n e l = elim (e .end) [ inl all ↦ (omega arith, omega arith) | inr h ↦ (h .0, omega (arith, h .1)) ]

@@ -9,7 +9,7 @@ use mathlib.Core.Logic.{_⊎_}
 use mathlib.Core.Bool.{Bool, true, false}
 use mathlib.Core.List.{List, [], _∷_, _++_}
 use Prim.Native.Nat.{ℕ, _+_, _<_, _≤_}
-use lib.ListN.{length, take}
+use lib.ListN.{length, getD, take}
 use Rattle.std.specs.Iters.{counting}
 use Rattle.std.specs.shelf.Lists.{All, kept-by}
 use Rattle.std.specs.declared.option.Option.{Option}
@@ -47,6 +47,29 @@ Breaks line p =
 abbrev pub Scanned : List ℕ → Option ℕ → Type 0
 Scanned line None = Line line
 Scanned line (Some p) = Breaks line p
+
+abbrev pub Scans : List ℕ → Result (Unit {0}) ℕ → Type 0
+Scans line (Ok _) = Line line
+Scans line (Err p) = Breaks line p
+
+-- the longest name that the line begins with has n bytes
+pub record NameEnd (line : List ℕ) (n : ℕ) : Type 0 where
+  pub within : n ≤ length line
+  pub name : 0 < n → is-name (take n line) ≡ true
+  pub most : (w rest : List ℕ) → is-name w ≡ true → line ≡ w ++ rest → length w ≤ n
+
+abbrev pub FirstOutside : List ℕ → Option ℕ → Type 0
+FirstOutside line (Some n) = NameEnd line n
+FirstOutside line None = NameEnd line (length line)
+
+-- n is the first blank at `start` or past it, or the line's length where there is none
+pub record WordEnd (line : List ℕ) (start n : ℕ) : Type 0 where
+  pub before : (k : ℕ) → start ≤ k → k < n → getD line k 0 ≡ 32 → ⊥
+  pub end : (n ≡ length line) ⊎ ((start ≤ n) × (n < length line) × (getD line n 0 ≡ 32))
+
+abbrev pub NextBlank : List ℕ → ℕ → Option ℕ → Type 0
+NextBlank line start (Some n) = WordEnd line start n
+NextBlank line start None = WordEnd line start (length line)
 
 -- the line begins with a name of over 24 bytes
 pub record LongName (line : List ℕ) : Type 0 where

@@ -1,12 +1,8 @@
 // A line that declares a kind: its name, and then a blank and the name of a wider kind, once or more.
 ghost use mathlib.Core.Path.{_≡_};
-ghost use mathlib.Core.Bool.{true};
-ghost use mathlib.Core.List.{List, _++_};
-ghost use Prim.Native.Nat.{ℕ, _+_, _≤_, _<_};
-ghost use lib.ListN.{length, take, drop};
-ghost use Rattle.declarations.specs.Names.{letter, is-name};
+ghost use Rattle.declarations.specs.Names.{letter};
 ghost use Rattle.declarations.specs.Names.{name-byte as name-character};
-ghost use Rattle.declarations.specs.Lines.{Scanned, tail};
+ghost use Rattle.declarations.specs.Lines.{Scans, Scanned, NameEnd, FirstOutside, WordEnd, NextBlank};
 ghost use Rattle.declarations.specs.Scanner.{next-part};
 
 // Where in the line a byte stands.
@@ -44,47 +40,78 @@ fn next(part: Part, byte: u8) -> Option<Part>
     }
 }
 
-// The first byte at which no lawful line goes on, the line's length where it only ends too early, or none for a lawful line.
-pub fn break_at(line: &[u8]) -> Option<usize>
-    ensures { λ r. ⌜ Scanned (now (line .entry)) r ⌝ }
+// Goes over the whole line, up to the byte at which no lawful line goes on, or up to its end where it ends too early.
+fn scan(line: &[u8]) -> Result<(), usize>
+    ensures { λ r. ⌜ Scans (now (line .entry)) r ⌝ }
 {
     let mut part = Part::Start;
     for (i, byte) in line.iter().enumerate() {
         match next(part, *byte) {
             Some(more) => part = more,
-            None => return Some(i),
+            None => return Err(i),
         }
     }
     match part {
-        Part::Wider => None,
-        _ => Some(line.len()),
+        Part::Wider => Ok(()),
+        _ => Err(line.len()),
     }
+}
+
+// The first byte at which no lawful line goes on, the line's length where it only ends too early, or none for a lawful line.
+pub fn break_at(line: &[u8]) -> Option<usize>
+    ensures { λ r. ⌜ Scanned (now (line .entry)) r ⌝ }
+{
+    match scan(line) {
+        Ok(()) => None,
+        Err(place) => Some(place),
+    }
+}
+
+// The first byte that goes on no name from the line's front.
+fn first_outside(line: &[u8]) -> Option<usize>
+    ensures { λ r. ⌜ FirstOutside (now (line .entry)) r ⌝ }
+{
+    for (i, byte) in line.iter().enumerate() {
+        let goes_on = if i == 0 {
+            is_letter(*byte)
+        } else {
+            is_name_byte(*byte)
+        };
+        if !goes_on {
+            return Some(i);
+        }
+    }
+    None
 }
 
 // How many bytes the longest name has that the line begins with: 0 where there is none.
 pub fn name_end(line: &[u8]) -> usize
-    ensures within { λ r. ⌜ r ≤ length (now (line .entry)) ⌝ }
-    ensures name { λ r. ⌜ (0 < r → is-name (take r (now (line .entry))) ≡ true) ⌝ }
-    ensures most { λ r. ⌜ ((name rest : List ℕ) → is-name name ≡ true → now (line .entry) ≡ name ++ rest → length name ≤ r) ⌝ }
+    ensures { λ r. ⌜ NameEnd (now (line .entry)) r ⌝ }
 {
-    for (i, byte) in line.iter().enumerate() {
-        let goes_on = if i == 0 { is_letter(*byte) } else { is_name_byte(*byte) };
-        if !goes_on {
-            return i;
+    match first_outside(line) {
+        Some(end) => end,
+        None => line.len(),
+    }
+}
+
+// The first blank at `start` or past it.
+fn next_blank(line: &[u8], start: usize) -> Option<usize>
+    ensures { λ r. ⌜ NextBlank (now (line .entry)) start r ⌝ }
+{
+    for i in start..line.len() {
+        if line[i] == b' ' {
+            return Some(i);
         }
     }
-    line.len()
+    None
 }
 
 // Where a word ends that begins at `start`: the next blank, or the end of the line.
 pub fn word_end(line: &[u8], start: usize) -> usize
-    ensures within { λ r. ⌜ (start ≤ length (now (line .entry)) → (start ≤ r) × (r ≤ length (now (line .entry)))) ⌝ }
-    ensures word { λ r. ⌜ ((w : List ℕ) (ws : List (List ℕ)) → is-name w ≡ true → drop start (now (line .entry)) ≡ w ++ tail ws → r ≡ start + length w) ⌝ }
+    ensures { λ r. ⌜ WordEnd (now (line .entry)) start r ⌝ }
 {
-    for i in start..line.len() {
-        if line[i] == b' ' {
-            return i;
-        }
+    match next_blank(line, start) {
+        Some(blank) => blank,
+        None => line.len(),
     }
-    line.len()
 }

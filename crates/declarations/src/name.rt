@@ -1,7 +1,5 @@
 // The name of a kind.
-ghost use mathlib.Core.Path.{_≡_};
 ghost use Prim.Native.Nat.{_≤_};
-ghost use lib.ListN.{length};
 
 pub mod methods;
 

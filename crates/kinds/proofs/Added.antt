@@ -31,7 +31,7 @@ module _ (names : List Name) (wider : List ℕ) (n : ℕ) (name : Name) (mask : 
   new-at : stored-at (set names n name) (set wider n mask) n ≡ new
   new-at =
       let a : getD (map name-bytes (set names n name)) n [] ≡ name-bytes name =
-          ap (λ xs. getD xs n []) (map-set name-bytes names n name) ∙ getD-set-same (map name-bytes names) n (name-bytes name) [] (omega (arith, length-map names name-bytes)) in
+      ap (λ xs. getD xs n []) (map-set name-bytes names n name) ∙ getD-set-same (map name-bytes names) n (name-bytes name) [] (omega (arith, length-map names name-bytes)) in
       let b : members n (getD (set wider n mask) n 0) ≡ members n mask = ap (members n) (getD-set-same wider n mask 0 lw) in
       λ i. record { name = a i; wider = b i }
 
@@ -39,7 +39,7 @@ module _ (names : List Name) (wider : List ℕ) (n : ℕ) (name : Name) (mask : 
   old-at k l =
       let ne : k ≢ n = omega arith in
       let a : getD (map name-bytes (set names n name)) k [] ≡ getD (map name-bytes names) k [] =
-          ap (λ xs. getD xs k []) (map-set name-bytes names n name) ∙ getD-set-other (map name-bytes names) n k (name-bytes name) [] ne in
+      ap (λ xs. getD xs k []) (map-set name-bytes names n name) ∙ getD-set-other (map name-bytes names) n k (name-bytes name) [] ne in
       let b : members k (getD (set wider n mask) k 0) ≡ members k (getD wider k 0) = ap (members k) (getD-set-other wider n k mask 0 ne) in
       λ i. record { name = a i; wider = b i }
 

@@ -11,15 +11,12 @@ use Rattle.std.specs.Iters.{counting}
 use Rattle.std.specs.shelf.Lists.{All, kept-by}
 use Rattle.std.specs.shelf.Text.{sameBytes}
 use Rattle.std.proofs.shelf.Equals.{sameBytes-decides}
-use Rattle.std.specs.Options.{isSome}
-use Rattle.std.specs.declared.option.Option.{Option}
-use Rattle.std.specs.declared.option.Option.the-variants.{Some, None}
 use Rattle.std.specs.declared.result.Result.the-variants.{Ok, Err}
 use Rattle.std.proofs.shelf.Elements.{all-getD}
 use Rattle.std.proofs.shelf.Lists.{take-append-drop, take-at, drop-at, getD-take, getD-at, length-take-le}
 use Rattle.std.proofs.shelf.Tests.{and-from, or-left, not-from-false, cases-lt, cases-order, both-ways}
 use Rattle.refusals.specs.declared.Refusal.{Refusal}
-use Rattle.refusals.specs.declared.Refusal.the-variants.{Grammar, Word}
+use Rattle.refusals.specs.declared.Refusal.the-variants.{Grammar}
 use Rattle.refusals.specs.Table.{row}
 use Rattle.declarations.specs.declared.name.Name.{Name}
 use Rattle.declarations.specs.Held.{name-bytes}
@@ -27,10 +24,10 @@ use Rattle.declarations.specs.Names.{is-name, name-byte, listed}
 use Rattle.declarations.specs.Declarations.{Declaration, name-of, names, follows, all-below}
 use Rattle.declarations.specs.Lines.{tail, Line, GoesOn, Breaks, LongName, TooMuch, Known, Unknown, FirstUnknown, WrongWord, numbers, Accepts, Refuses}
 use Rattle.declarations.specs.Rows.{bit, members}
-use Rattle.declarations.proofs.Sound.{listed-is, listed-at}
+use Rattle.declarations.proofs.Sound.{listed-is}
 use Rattle.declarations.proofs.Words.{name-some, name-at, blank-apart}
 use Rattle.declarations.proofs.Determined.{breaks-apart}
-use Rattle.kinds.specs.Model.{Gathers, Finds}
+use Rattle.kinds.specs.Model.{Gathers}
 use Rattle.kinds.proofs.Members.{members-below, members-some, kept-same}
 
 module _ (line : List ℕ) (end : ℕ) (within : end ≤ length line)
@@ -46,7 +43,7 @@ module _ (line : List ℕ) (end : ℕ) (within : end ≤ length line)
         rest = drop end line;
         named = name (omega (arith, end-length));
         long = l;
-        whole = sym (take-append-drop end line)
+        whole = sym (take-append-drop end line);
       }
 
   short-name : length (take end line) ≤ 24 → LongName line → ⊥
@@ -71,11 +68,11 @@ module _ (line : List ℕ) (end : ℕ) (within : end ≤ length line)
     pub end-is : end ≡ length (l .name)
     end-is =
         elim (cases-lt (length (l .name)) end) [
-          inl h ↦
-            let n = name-some (l .name) (l .named) in
-            let b = name-at (take end line) (length (l .name)) (name (omega arith)) (omega (arith, end-length)) in
-            absurd (blank-apart _ b (getD-take end line (length (l .name)) 0 h ∙ first-blank))
-        | inr h ↦ omega (arith, most (l .name) (tail (l .wider)) (l .named) (l .whole))
+          | inl h ↦
+              let n = name-some (l .name) (l .named) in
+              let b = name-at (take end line) (length (l .name)) (name (omega arith)) (omega (arith, end-length)) in
+              absurd (blank-apart _ b (getD-take end line (length (l .name)) 0 h ∙ first-blank))
+          | inr h ↦ omega (arith, most (l .name) (tail (l .wider)) (l .named) (l .whole))
         ]
 
     pub name-is : take end line ≡ l .name
@@ -113,14 +110,6 @@ module _ (ds : List Declaration) (n : ℕ) (size : length ds ≡ n) (ws : List (
 pub name-short : (n : Name) → length (name-bytes n) ≤ 24
 name-short n = omega (arith, length-take (n .len) (n .bytes), n .few)
 
-pub finds-known : (ds : List Declaration) (w : List ℕ) (o : Option ℕ) → isSome o ≡ true → Finds ds w o → Known ds w
-finds-known ds w (Some k) t f = subst (Known ds) (f .1) (listed-at ds k (f .0))
-finds-known ds w None t f = absurd (both-ways false refl t)
-
-pub finds-unknown : (ds : List Declaration) (w : List ℕ) (o : Option ℕ) → isSome o ≡ false → Finds ds w o → Unknown ds w
-finds-unknown ds w (Some k) t f = absurd (both-ways true t refl)
-finds-unknown ds w None t f = f
-
 -- what is known once the line's first word is held
 pub record Begun (line : List ℕ) (end : ℕ) : Type 0 where
   pub fits : length line ≤ 1000
@@ -140,7 +129,7 @@ begins line end fits within name most n held =
       within = within;
       name = name;
       most = most;
-      short = omega (arith, name-short n, ap length (held ∙ first-cut line end))
+      short = omega (arith, name-short n, ap length (held ∙ first-cut line end));
     }
 
 module _ (ds : List Declaration) (line : List ℕ) (end : ℕ) (b : Begun line end) where
@@ -155,8 +144,8 @@ module _ (ds : List Declaration) (line : List ℕ) (end : ℕ) (b : Begun line e
     first-word : take end line ≡ l .name
     first-word = name-is line end (b .within) (b .name) (b .most) l
 
-    pub refuses-known : Known ds (take end line) → Refuses 64 ds line (Word 0)
-    refuses-known k = inr (inr (not-much-here, (l, 0, inl (subst (Known ds) first-word k, refl), refl)))
+    pub refuses-known : (e : Refusal) → Known ds (take end line) → row e ≡ record { number = 3; values = 0 ∷ [] } → Refuses 64 ds line e
+    refuses-known e k is = inr (inr (not-much-here, (l, 0, inl (subst (Known ds) first-word k, refl), is)))
 
     pub rest-words : drop end line ≡ tail (l .wider)
     rest-words = wider-is line end (b .within) (b .name) (b .most) l
@@ -180,5 +169,5 @@ module _ (ds : List Declaration) (line : List ℕ) (end : ℕ) (b : Begun line e
             fresh = subst (Unknown ds) first-word u;
             known = g .0;
             name = e ∙ first-word;
-            wider = numbers-is ds n size (l .wider) (l .some) mask end g
+            wider = numbers-is ds n size (l .wider) (l .some) mask end g;
           }

@@ -48,12 +48,12 @@ listed-push x (v ∷ vs) w = ap (λ b. sameBytes x v || b) (listed-push x vs w) 
 same-word : (ds : List Declaration) → sound ds ≡ true → (w : List ℕ) (k : ℕ) → k < length ds → name-of ds k ≡ w → (j : ℕ) → j < length ds → eqb j k ≡ sameBytes (name-of ds j) w
 same-word ds ok w k l named j h =
     elim (cases-eq j k) [
-      inl e ↦ eq-eqb j k e ∙ sym (sameBytes-decides (name-of ds j) w .1 (ap (name-of ds) e ∙ named))
-    | inr ne ↦
-        elim (cases-bool (sameBytes (name-of ds j) w)) [
-          inl t ↦ absurd (ne (same-name ds ok j k h l (sameBytes-decides (name-of ds j) w .0 t ∙ sym named)))
-        | inr f ↦ ne-eqb j k ne ∙ sym f
-        ]
+      | inl e ↦ eq-eqb j k e ∙ sym (sameBytes-decides (name-of ds j) w .1 (ap (name-of ds) e ∙ named))
+      | inr ne ↦
+          elim (cases-bool (sameBytes (name-of ds j) w)) [
+            | inl t ↦ absurd (ne (same-name ds ok j k h l (sameBytes-decides (name-of ds j) w .0 t ∙ sym named)))
+            | inr f ↦ ne-eqb j k ne ∙ sym f
+          ]
     ]
 
 -- after some of the words: those that are done are known and in the mask, and the rest of the line has the others
@@ -80,7 +80,7 @@ starts ds at ws line a e =
       place = omega arith;
       known = tt;
       below = pow-pos (length ds);
-      bits = λ k l. bit-none k
+      bits = λ k l. bit-none k;
     }
 
 -- the next word, where the line goes on
@@ -106,7 +106,7 @@ module _ (ds : List Declaration) (at : ℕ) (ws : List (List ℕ)) (line : List 
             is = e;
             named = a .0;
             each = a .1;
-            rest = sym (drop-drop 1 end line) ∙ ap (drop 1) r
+            rest = sym (drop-drop 1 end line) ∙ ap (drop 1) r;
           }
 
   finishes : length line ≤ end → p .done ≡ ws
@@ -137,7 +137,7 @@ module _ (ds : List Declaration) (at : ℕ) (ws : List (List ℕ)) (line : List 
           split = p .split ∙ ap (λ x. p .done ++ x) (n .is);
           known = p .known;
           unknown = u;
-          place = ap (λ x. x + 1) (p .place)
+          place = ap (λ x. x + 1) (p .place);
         }
 
     pub advances : sound ds ≡ true → length ds ≤ 64 → (stop k : ℕ) → stop ≡ end + 1 + length (n .word) → k < length ds → name-of ds k ≡ n .word → Progress ds at ws line stop (bitOr mask ((1 * 2 ^ k) % 2 ^ 64))
@@ -152,5 +152,5 @@ module _ (ds : List Declaration) (at : ℕ) (ws : List (List ℕ)) (line : List 
           place = omega (arith, tail-push (p .done) (n .word), p .place);
           known = all-push (Known ds) (p .done) (n .word) (p .known) (subst (Known ds) named (listed-at ds k l));
           below = or-lt (length ds) mask (2 ^ k) (p .below) (pow-below k (length ds) l);
-          bits = λ j h. bit-or mask (2 ^ k) j ∙ cc (p .bits j h, bit-pow k j, same-word ds ok (n .word) k l named j h, listed-push (name-of ds j) (p .done) (n .word))
+          bits = λ j h. bit-or mask (2 ^ k) j ∙ cc (p .bits j h, bit-pow k j, same-word ds ok (n .word) k l named j h, listed-push (name-of ds j) (p .done) (n .word));
         })

@@ -6,12 +6,9 @@ use mathlib.Core.List.{List}
 use Prim.Native.Nat.{ℕ, _<_, _≤_}
 use native.Mathlib.Omega.{arith}
 use lib.Bits.{bitAnd}
-use lib.Count.{trailingZeros}
-use lib.Dec.{eqb, ltb}
+use lib.Dec.{ltb}
 use lib.ListN.{length, getD, take}
-use Rattle.std.specs.declared.option.Option.{Option}
-use Rattle.std.specs.declared.option.Option.the-variants.{Some, None}
-use Rattle.std.proofs.shelf.Tests.{and-from, and-left, and-right, lt-ltb, le-ltb, eq-eqb, ne-eqb, cond-true, cond-false}
+use Rattle.std.proofs.shelf.Tests.{and-from, and-left, and-right, lt-ltb, le-ltb, cond-true, cond-false}
 use Rattle.declarations.specs.Declarations.{Declaration, sound}
 use Rattle.declarations.specs.Rows.{row, rows-of, lowest-in, stray-common, common-in}
 use Rattle.declarations.proofs.Grown.{Right, rows-right}
@@ -26,13 +23,7 @@ module _ (ds : List Declaration) (rows : List ℕ) (n : ℕ) (ok : sound ds ≡ 
   common-past (inr l) = sym (cond-false _ _ (stray-common a b) (and-right _ _ (le-ltb b _ (omega (arith, count)))))
 
   module _ (l : a < n) (m : b < n) where
-    kinds-in : lowest-in 64 (bitAnd (getD rows a 0) (getD rows b 0)) ≡ common-in 64 (rows-of ds) a b
+    pub kinds-in : lowest-in 64 (bitAnd (getD rows a 0) (getD rows b 0)) ≡ common-in 64 (rows-of ds) a b
     kinds-in =
         ap (lowest-in 64) (both-is ds rows n ok size few right a b l m)
         ∙ sym (cond-true _ (lowest-in 64 (bitAnd (row (rows-of ds) a) (row (rows-of ds) b))) _ (and-from _ _ (lt-ltb a _ (omega (arith, count))) (lt-ltb b _ (omega (arith, count)))))
-
-    pub common-none : bitAnd (getD rows a 0) (getD rows b 0) ≡ 0 → None ≡ common-in 64 (rows-of ds) a b
-    common-none e = sym (cond-true _ None (Some (trailingZeros 64 (bitAnd (getD rows a 0) (getD rows b 0)))) (eq-eqb _ _ e)) ∙ kinds-in
-
-    pub common-some : (bitAnd (getD rows a 0) (getD rows b 0) ≡ 0 → ⊥) → Some (trailingZeros 64 (bitAnd (getD rows a 0) (getD rows b 0))) ≡ common-in 64 (rows-of ds) a b
-    common-some ne = sym (cond-false _ None (Some (trailingZeros 64 (bitAnd (getD rows a 0) (getD rows b 0)))) (ne-eqb _ _ ne)) ∙ kinds-in

@@ -35,7 +35,7 @@ module _ (count wider : ℕ) (before : List ℕ) (i : ℕ) (l : i < length befor
   marked-row rows r e few is ne =
       let was : r ≡ getD before i 0 = is ∙ rows-at rows e in
       let new : bitOr r ((1 * 2 ^ count) % 2 ^ 64) ≡ grown count wider (getD before i 0) =
-          ap (bitOr r) (one-shl count 64 few) ∙ sym (cond-false _ r (bitOr r (2 ^ count)) (ne-eqb _ _ ne)) ∙ ap (grown count wider) was in
+      ap (bitOr r) (one-shl count 64 few) ∙ sym (cond-false _ r (bitOr r (2 ^ count)) (ne-eqb _ _ ne)) ∙ ap (grown count wider) was in
       ap (λ x. set rows i x) new ∙ ap (λ x. set x i (grown count wider (getD before i 0))) (e ∙ ap (λ x. done ++ x) (drop-more before i 0 l))
       ∙ set-at done (getD before i 0) (drop (i + 1) before) (grown count wider (getD before i 0)) i done-length ∙ more-is
 
@@ -44,7 +44,7 @@ module _ (count wider : ℕ) (before : List ℕ) (i : ℕ) (l : i < length befor
   kept-row rows r e is z =
       let was : r ≡ getD before i 0 = is ∙ rows-at rows e in
       let same : getD before i 0 ≡ grown count wider (getD before i 0) =
-          sym was ∙ sym (cond-true _ r (bitOr r (2 ^ count)) (eq-eqb _ _ z)) ∙ ap (grown count wider) was in
+      sym was ∙ sym (cond-true _ r (bitOr r (2 ^ count)) (eq-eqb _ _ z)) ∙ ap (grown count wider) was in
       e ∙ ap (λ x. done ++ x) (drop-more before i 0 l) ∙ ap (λ x. done ++ x ∷ drop (i + 1) before) same ∙ more-is
 
 pub marked : (count wider : ℕ) (before rows : List ℕ) → count < 64 → count < length before → length rows ≡ length before → rows ≡ map (grown count wider) (take count before) ++ drop count before → take (count + 1) (set rows count ((1 * 2 ^ count) % 2 ^ 64)) ≡ add-row (take count before) wider

@@ -29,14 +29,14 @@ module _ (p : ℕ → Bool) where
   kept-passes a zero w m = absurd (both-ways false refl m)
   kept-passes a (suc n) w m =
       elim (cases-bool (p a)) [
-        inl t ↦
-          elim (or-cases (eqb w a) _ (sym (ap (among w) (ap (λ b. cond b (a ∷ kept-by p (counting (a + 1) n)) (kept-by p (counting (a + 1) n))) t)) ∙ m)) [
-            inl e ↦ (ap p (eqb-true w a e) ∙ t, omega (arith, eqb-true w a e))
-          | inr h ↦ let q = kept-passes (a + 1) n w h in (q .0, omega (arith, q .1))
-          ]
-      | inr f ↦
-          let q = kept-passes (a + 1) n w (sym (ap (among w) (ap (λ b. cond b (a ∷ kept-by p (counting (a + 1) n)) (kept-by p (counting (a + 1) n))) f)) ∙ m) in
-          (q .0, omega (arith, q .1))
+        | inl t ↦
+            elim (or-cases (eqb w a) _ (sym (ap (among w) (ap (λ b. cond b (a ∷ kept-by p (counting (a + 1) n)) (kept-by p (counting (a + 1) n))) t)) ∙ m)) [
+              | inl e ↦ (ap p (eqb-true w a e) ∙ t, omega (arith, eqb-true w a e))
+              | inr h ↦ let q = kept-passes (a + 1) n w h in (q .0, omega (arith, q .1))
+            ]
+        | inr f ↦
+            let q = kept-passes (a + 1) n w (sym (ap (among w) (ap (λ b. cond b (a ∷ kept-by p (counting (a + 1) n)) (kept-by p (counting (a + 1) n))) f)) ∙ m) in
+            (q .0, omega (arith, q .1))
       ]
 
   kept-has : (a n w : ℕ) → a ≤ w → w < a + n → p w ≡ true → among w (kept-by p (counting a n)) ≡ true
@@ -44,15 +44,15 @@ module _ (p : ℕ → Bool) where
   kept-has a zero w l m t = absurd (omega arith)
   kept-has a (suc n) w l m t =
       elim (cases-eq w a) [
-        inl e ↦
-          ap (among w) (ap (λ b. cond b (a ∷ kept-by p (counting (a + 1) n)) (kept-by p (counting (a + 1) n))) (ap p (sym e) ∙ t))
-          ∙ or-left (eqb w a) _ (eq-eqb w a e)
-      | inr ne ↦
-          let h = kept-has (a + 1) n w (omega arith) (omega arith) t in
-          elim (cases-bool (p a)) [
-            inl s ↦ ap (among w) (ap (λ b. cond b (a ∷ kept-by p (counting (a + 1) n)) (kept-by p (counting (a + 1) n))) s) ∙ or-right (eqb w a) _ h
-          | inr f ↦ ap (among w) (ap (λ b. cond b (a ∷ kept-by p (counting (a + 1) n)) (kept-by p (counting (a + 1) n))) f) ∙ h
-          ]
+        | inl e ↦
+            ap (among w) (ap (λ b. cond b (a ∷ kept-by p (counting (a + 1) n)) (kept-by p (counting (a + 1) n))) (ap p (sym e) ∙ t))
+            ∙ or-left (eqb w a) _ (eq-eqb w a e)
+        | inr ne ↦
+            let h = kept-has (a + 1) n w (omega arith) (omega arith) t in
+            elim (cases-bool (p a)) [
+              | inl s ↦ ap (among w) (ap (λ b. cond b (a ∷ kept-by p (counting (a + 1) n)) (kept-by p (counting (a + 1) n))) s) ∙ or-right (eqb w a) _ h
+              | inr f ↦ ap (among w) (ap (λ b. cond b (a ∷ kept-by p (counting (a + 1) n)) (kept-by p (counting (a + 1) n))) f) ∙ h
+            ]
       ]
 
 -- the same test, the same numbers
@@ -91,15 +91,15 @@ mask-below n (x ∷ xs) a =
 pub mask-members : (n mask : ℕ) → mask < 2 ^ n → mask-of (members n mask) ≡ mask
 mask-members n mask l =
     same-bits n (mask-of (members n mask)) mask (mask-below n (members n mask) (members-below n mask)) l (λ j h.
-      bit-mask (members n mask) j ∙ same j h)
+    bit-mask (members n mask) j ∙ same j h)
   where
     same : (j : ℕ) → j < n → among j (members n mask) ≡ bit mask j
     same j h =
         elim (cases-bool (bit mask j)) [
-          inl t ↦ kept-has (bit mask) 0 n j (omega arith) (omega arith) t ∙ sym t
-        | inr f ↦
-            elim (cases-bool (among j (members n mask))) [
-              inl m ↦ absurd (both-ways (bit mask j) f (kept-passes (bit mask) 0 n j m .0))
-            | inr g ↦ g ∙ sym f
-            ]
+          | inl t ↦ kept-has (bit mask) 0 n j (omega arith) (omega arith) t ∙ sym t
+          | inr f ↦
+              elim (cases-bool (among j (members n mask))) [
+                | inl m ↦ absurd (both-ways (bit mask j) f (kept-passes (bit mask) 0 n j m .0))
+                | inr g ↦ g ∙ sym f
+              ]
         ]

@@ -42,8 +42,8 @@ module _ (ds : List Declaration) (rows : List ℕ) (n : ℕ) (ok : sound ds ≡ 
   meets-apart : (x y : ℕ) → (y < n → meets 64 (rows-of ds) x y ≡ true) → x < y → NoWidest ds x y → ⊥
   meets-apart x y h l w =
       elim (cases-lt y n) [
-        inl m ↦ meets-not 64 ds (rows-of ds) ok (rows-right ds ok) (omega arith) x y (omega arith) (omega arith) (h m) w
-      | inr g ↦ common-not ds x y _ (strays-common ds ok x y (inr (omega arith))) w
+        | inl m ↦ meets-not 64 ds (rows-of ds) ok (rows-right ds ok) (omega arith) x y (omega arith) (omega arith) (h m) w
+        | inr g ↦ common-not ds x y _ (strays-common ds ok x y (inr (omega arith))) w
       ]
 
   pub first-pair : (a b : ℕ) → a < b → b < n → meets 64 (rows-of ds) a b ≡ false → ((y : ℕ) → a < y → y < b → meets 64 (rows-of ds) a y ≡ true) → ((x y : ℕ) → x < a → x < y → y < n → meets 64 (rows-of ds) x y ≡ true) → First ds a b
@@ -52,10 +52,10 @@ module _ (ds : List Declaration) (rows : List ℕ) (n : ℕ) (ok : sound ds ≡ 
         order = l;
         apart = not-meets 64 ds (rows-of ds) ok (rows-right ds ok) (omega arith) a b (omega arith) (omega arith) f;
         first = λ x y lt o w.
-          elim o [
-            inl h ↦ meets-apart x y (λ k. before x y h lt k) lt w
-          | inr h ↦ meets-apart x y (λ k. subst (λ z. meets 64 (rows-of ds) z y ≡ true) (sym (h .0)) (same y (omega (arith, h .0)) (h .1))) lt w
-          ]
+            elim o [
+              | inl h ↦ meets-apart x y (λ k. before x y h lt k) lt w
+              | inr h ↦ meets-apart x y (λ k. subst (λ z. meets 64 (rows-of ds) z y ≡ true) (sym (h .0)) (same y (omega (arith, h .0)) (h .1))) lt w
+            ];
       }
 
   pub all-meet : ((x y : ℕ) → x < y → y < n → meets 64 (rows-of ds) x y ≡ true) → closed 64 (rows-of ds) ≡ true

@@ -9,8 +9,6 @@ ghost use Rattle.kinds.specs.Stored.{stored};
 use declarations::name::Name;
 
 pub mod lookups;
-pub mod pairs;
-pub mod starts;
 
 // Kind k has the name `names[k]`, the wider kinds whose bits are set in `wider[k]`, and under it those whose bits are set in `rows[k]`.
 #[derive(Clone, Copy)]

@@ -8,12 +8,8 @@ use Rattle.std.proofs.shelf.Lists.{drop-more, drop-at, drop-drop, getD-at}
 use Rattle.std.specs.declared.option.Option.{Option}
 use Rattle.std.specs.declared.option.Option.the-variants.{Some, None}
 use Rattle.orders.specs.declared.pair.Both.{Both}
-use Rattle.orders.specs.Texts.{Texts, Stops, Stands}
+use Rattle.orders.specs.Texts.{Texts, Stops, Stands, Back}
 use Rattle.orders.specs.Pairs.{joined, pair-texts}
-
--- what reading these bytes as r reads back
-abbrev pub Back : {K : Type 0} → Texts K → List ℕ → Option (K × ℕ) → Type 0
-Back {K} m bytes r = (k : K) (t rest : List ℕ) → m .text k ≡ Some t → Stops rest → bytes ≡ t ++ rest → r ≡ Some (k, length t)
 
 record Parts (o p : Option (List ℕ)) (t : List ℕ) : Type 0 where
   left : List ℕ
@@ -53,14 +49,14 @@ module _ {K L : Type 0} (m : Texts K) (n : Texts L) (bytes : List ℕ) where
   found r back x t rest e w =
       let p = parts _ _ t e in
       let whole : bytes ≡ p .left ++ 47 ∷ (p .right ++ rest) =
-          w ∙ ap (λ u. u ++ rest) (p .whole) ∙ append-assoc (p .left) (47 ∷ p .right) rest in
+      w ∙ ap (λ u. u ++ rest) (p .whole) ∙ append-assoc (p .left) (47 ∷ p .right) rest in
       record {
         left = p .left;
         right = p .right;
         first = back (x .first) (p .left) (47 ∷ (p .right ++ rest)) (p .first) refl whole;
         second = p .second;
         text = p .whole;
-        whole = whole
+        whole = whole;
       }
 
   pub none-first : (r : Option (K × ℕ)) → r ≡ None → Back m bytes r → Back (pair-texts m n) bytes None
@@ -76,7 +72,7 @@ module _ {K L : Type 0} (m : Texts K) (n : Texts L) (bytes : List ℕ) where
     past-left : (x : Both K L) (t rest : List ℕ) (f : Found (Some (k, taken)) x t rest) → drop (taken + 1) bytes ≡ f .right ++ rest
     past-left x t rest f =
         let e : drop taken bytes ≡ 47 ∷ (f .right ++ rest) =
-            ap (drop taken) (f .whole) ∙ drop-at (f .left) (47 ∷ (f .right ++ rest)) taken (at-left x t rest f) in
+        ap (drop taken) (f .whole) ∙ drop-at (f .left) (47 ∷ (f .right ++ rest)) taken (at-left x t rest f) in
         sym (drop-drop 1 taken bytes) ∙ ap (drop 1) e
 
     pub none-solidus : (taken < length bytes → getD bytes taken 0 ≡ 47 → ⊥) → Back (pair-texts m n) bytes None
@@ -84,9 +80,9 @@ module _ {K L : Type 0} (m : Texts K) (n : Texts L) (bytes : List ℕ) where
         let f = found (Some (k, taken)) back x t rest text w in
         let e = at-left x t rest f in
         let l : length bytes ≡ length (f .left) + length (47 ∷ (f .right ++ rest)) =
-            ap length (f .whole) ∙ length-append (f .left) (47 ∷ (f .right ++ rest)) in
+        ap length (f .whole) ∙ length-append (f .left) (47 ∷ (f .right ++ rest)) in
         let at : getD bytes taken 0 ≡ 47 =
-            ap (λ b. getD b taken 0) (f .whole) ∙ getD-at (f .left) 47 (f .right ++ rest) 0 taken e in
+        ap (λ b. getD b taken 0) (f .whole) ∙ getD-at (f .left) 47 (f .right ++ rest) 0 taken e in
         absurd (h (omega arith) at)
 
     pub none-second : (tail : List ℕ) (r : Option (L × ℕ)) → tail ≡ drop (taken + 1) bytes → r ≡ None → Back n tail r → Back (pair-texts m n) bytes None
@@ -104,19 +100,19 @@ module _ {K L : Type 0} (m : Texts K) (n : Texts L) (bytes : List ℕ) where
         let a = both-same k (x .first) _ _ (f .first) .0 in
         let b = both-same l (x .second) _ _ g in
         let len : taken + 1 + count ≡ length t =
-            omega (arith, ap length (f .text), length-append (f .left) (47 ∷ f .right), b .1) in
+        omega (arith, ap length (f .text), length-append (f .left) (47 ∷ f .right), b .1) in
         λ i. Some (record { first = a i; second = b .0 i }, len i)
 
   pub stands-both : (k : K) (l : L) (taken count : ℕ) (tail : List ℕ) → taken < length bytes → getD bytes taken 0 ≡ 47 → tail ≡ drop (taken + 1) bytes → Stands m bytes k taken → Stands n tail l count → Stands (pair-texts m n) bytes (record { first = k; second = l }) (taken + 1 + count)
   stands-both k l taken count tail lt at d a b =
       let r : a .rest ≡ 47 ∷ (b .front ++ b .rest) =
-          sym (drop-at (a .front) (a .rest) taken (sym (a .count))) ∙ ap (drop taken) (sym (a .whole)) ∙ drop-more bytes taken 0 lt
-          ∙ cc (at, d, b .whole) in
+      sym (drop-at (a .front) (a .rest) taken (sym (a .count))) ∙ ap (drop taken) (sym (a .whole)) ∙ drop-more bytes taken 0 lt
+      ∙ cc (at, d, b .whole) in
       record {
         front = a .front ++ 47 ∷ b .front;
         rest = b .rest;
         text = rw (a .text, b .text);
         stop = b .stop;
         whole = a .whole ∙ ap (λ u. a .front ++ u) r ∙ sym (append-assoc (a .front) (47 ∷ b .front) (b .rest));
-        count = omega (arith, length-append (a .front) (47 ∷ b .front), a .count, b .count)
+        count = omega (arith, length-append (a .front) (47 ∷ b .front), a .count, b .count);
       }

@@ -10,14 +10,8 @@ use Rattle.std.specs.declared.option.Option.{Option}
 use Rattle.std.specs.declared.option.Option.the-variants.{Some, None}
 use Rattle.std.proofs.shelf.Lists.{take-append-drop, length-take-le}
 use Rattle.std.proofs.shelf.Tests.{false≢true}
-use Rattle.orders.specs.Texts.{Texts, Stops, stops, Stands}
+use Rattle.orders.specs.Texts.{Texts, Stops, Stopped, stops, Stands}
 use Rattle.orders.proofs.Fronts.{Ends, front-is}
-
--- no text stops before n, and texts stop there
-pub record Stopped (bytes : List ℕ) (n : ℕ) : Type 0 where
-  pub within : n ≤ length bytes
-  pub before : All (λ b. stops b ≡ false) (take n bytes)
-  pub after : Stops (drop n bytes)
 
 -- r is the one kind whose text this is
 abbrev pub ReadsWhole : {K : Type 0} → Texts K → List ℕ → Option K → Type 0
@@ -55,5 +49,5 @@ module _ {K : Type 0} (m : Texts K) (single : (k : K) (t : List ℕ) → m .text
         text = r kind .1 refl;
         stop = s .after;
         whole = sym (take-append-drop n bytes);
-        count = sym (length-take-le n bytes (s .within))
+        count = sym (length-take-le n bytes (s .within));
       }

@@ -43,12 +43,12 @@ fits t before n ne h = elim (cases-lt (length before) (length t)) [ inl l ↦ ab
 after-is : (t u before mid tail last : List ℕ) (n k : ℕ) → n ≡ length t → n < length mid → mid ≡ t ++ drop n before → tail ≡ drop (n + 1) (set mid n 47) → k ≡ length tail → last ≡ u ++ drop (length u) tail → length last ≡ k → putMid (n + 1) k (set mid n 47) last ≡ (t ++ 47 ∷ u) ++ drop (n + 1 + length u) before
 after-is t u before mid tail last n k e l m d s w z =
     let front : take (n + 1) (set mid n 47) ≡ t ++ 47 ∷ [] =
-        take-more-set mid n 47 l ∙ ap (λ x. x ++ 47 ∷ []) (ap (take n) m ∙ take-at t (drop n before) n (sym e)) in
+    take-more-set mid n 47 l ∙ ap (λ x. x ++ 47 ∷ []) (ap (take n) m ∙ take-at t (drop n before) n (sym e)) in
     let over : tail ≡ drop (n + 1) before =
-        d ∙ drop-set-lt (n + 1) mid n 47 (omega arith) ∙ sym (drop-drop 1 n mid) ∙ ap (drop 1) (ap (drop n) m ∙ drop-at t (drop n before) n (sym e)) ∙ drop-drop 1 n before in
+    d ∙ drop-set-lt (n + 1) mid n 47 (omega arith) ∙ sym (drop-drop 1 n mid) ∙ ap (drop 1) (ap (drop n) m ∙ drop-at t (drop n before) n (sym e)) ∙ drop-drop 1 n before in
     let none : drop k (drop (n + 1) (set mid n 47)) ≡ [] = drop-all k _ (omega (arith, ap length d)) in
     let rest : last ≡ u ++ drop (n + 1 + length u) before =
-        w ∙ ap (λ x. u ++ drop (length u) x) over ∙ ap (λ x. u ++ x) (drop-drop (length u) (n + 1) before) in
+    w ∙ ap (λ x. u ++ drop (length u) x) over ∙ ap (λ x. u ++ x) (drop-drop (length u) (n + 1) before) in
     let all : last ++ [] ≡ u ++ drop (n + 1 + length u) before = append-nil last ∙ rest in
     rw (front, none, all) (append-assoc t (47 ∷ []) (u ++ drop (n + 1 + length u) before) ∙ sym (append-assoc t (47 ∷ u) (drop (n + 1 + length u) before)))
 

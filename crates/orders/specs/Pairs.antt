@@ -38,7 +38,7 @@ paired m n =
       widest-is = λ x. (m .widest-is (x .first), n .widest-is (x .second));
       through = λ x y z u v. (m .through _ _ _ (u .0) (v .0), n .through _ _ _ (u .1) (v .1));
       same = λ x y u v i. record { first = m .same _ _ (u .0) (v .0) i; second = n .same _ _ (u .1) (v .1) i };
-      common-is = λ x y. both-is (m .under) (n .under) _ _ _ _ _ _ (m .common-is (x .first) (y .first)) (n .common-is (x .second) (y .second))
+      common-is = λ x y. both-is (m .under) (n .under) _ _ _ _ _ _ (m .common-is (x .first) (y .first)) (n .common-is (x .second) (y .second));
     }
 
 -- the first text, a solidus and the second text
@@ -65,5 +65,5 @@ abbrev pub pair-texts : {K L : Type 0} → Texts K → Texts L → Texts (Both K
 pair-texts m n =
     record {
       text = λ x. joined (m .text (x .first)) (n .text (x .second));
-      lawful = λ x. joined-lawful _ _ (m .lawful (x .first)) (n .lawful (x .second))
+      lawful = λ x. joined-lawful _ _ (m .lawful (x .first)) (n .lawful (x .second));
     }

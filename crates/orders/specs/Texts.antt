@@ -4,7 +4,7 @@ use mathlib.Core.Bool.{Bool, true, false, not, _&&_, _||_}
 use mathlib.Core.List.{List, [], _∷_, _++_}
 use Prim.Native.Nat.{ℕ, _<_, _≤_}
 use lib.Dec.{eqb, leb}
-use lib.ListN.{length, drop}
+use lib.ListN.{length, take, drop}
 use Rattle.std.specs.shelf.Lists.{All}
 use Rattle.std.specs.declared.option.Option.{Option}
 use Rattle.std.specs.declared.option.Option.the-variants.{Some, None}
@@ -29,6 +29,17 @@ abbrev pub Stops : List ℕ → Type 0
 Stops [] = Unit {0}
 Stops (b ∷ bs) = stops b ≡ true
 
+-- no text of a single part stops before n, and texts stop there
+pub record Stopped (bytes : List ℕ) (n : ℕ) : Type 0 where
+  pub within : n ≤ length bytes
+  pub before : All (λ b. stops b ≡ false) (take n bytes)
+  pub after : Stops (drop n bytes)
+
+-- the first byte at which texts stop, or none before the end
+abbrev pub FirstStop : List ℕ → Option ℕ → Type 0
+FirstStop bytes (Some n) = Stopped bytes n
+FirstStop bytes None = Stopped bytes (length bytes)
+
 -- the text of each kind that has one
 pub record Texts (K : Type 0) : Type 0 where
   pub text : K → Option (List ℕ)
@@ -42,6 +53,10 @@ pub record Stands {K : Type 0} (m : Texts K) (bytes : List ℕ) (k : K) (n : ℕ
   pub stop : Stops rest
   pub whole : bytes ≡ front ++ rest
   pub count : n ≡ length front
+
+-- every text that stands first, up to where texts stop, is read back as its kind
+abbrev pub Back : {K : Type 0} → Texts K → List ℕ → Option (K × ℕ) → Type 0
+Back {K} m bytes r = (k : K) (t rest : List ℕ) → m .text k ≡ Some t → Stops rest → bytes ≡ t ++ rest → r ≡ Some (k, length t)
 
 abbrev pub Taken : {K : Type 0} → Texts K → List ℕ → Option (K × ℕ) → Type 0
 Taken m bytes None = Unit {0}

@@ -1,7 +1,7 @@
 // An order of kinds, by its meaning: the relation "at or under", the widest kind and the common kind, under five rules.
 ghost use mathlib.Core.Path.{_≡_};
 ghost use Rattle.std.specs.declared.option.Option.{Option};
-ghost use Rattle.orders.specs.Meaning.{Meaning, IsCommon, IsWidest};
+ghost use Rattle.orders.specs.Meaning.{Meaning, IsCommon};
 
 pub trait Order {
     type Kind: Copy;
@@ -15,14 +15,6 @@ pub trait Order {
     // The widest kind at or under both, or none where no kind is at or under both.
     fn common(&self, a: Self::Kind, b: Self::Kind) -> Option<Self::Kind>
         ensures { λ r. ⌜ r ≡ meaning (now (self .entry)) .common a b ⌝ };
-}
-
-// The widest kind. The rules fix it: whatever every kind is at or under is this kind.
-pub fn widest_kind<O: Order>(order: &O) -> O::Kind
-    ensures answer { λ r. ⌜ IsWidest (meaning (now (order .entry)) .under) r ⌝ }
-    ensures fixed { λ r. ⌜ ((k : O·Kind) → IsWidest (meaning (now (order .entry)) .under) k → k ≡ r) ⌝ }
-{
-    order.widest()
 }
 
 // The common kind. The rules fix it: whatever answer meets them is this one.

@@ -1,12 +1,10 @@
 // Orders whose kinds have texts, and what reading and writing a text comes down to.
 ghost use mathlib.Core.Path.{_≡_};
-ghost use mathlib.Core.Bool.{false};
 ghost use mathlib.Core.List.{List, _++_};
 ghost use Prim.Native.Nat.{ℕ, _≤_};
-ghost use lib.ListN.{length, take, drop};
+ghost use lib.ListN.{length, drop};
 ghost use Rattle.std.specs.declared.option.Option.the-variants.{Some};
-ghost use Rattle.std.specs.shelf.Lists.{All};
-ghost use Rattle.orders.specs.Texts.{Texts, Stops, Taken, Writes};
+ghost use Rattle.orders.specs.Texts.{Texts, Stops, Stopped, FirstStop, Taken, Writes};
 ghost use Rattle.orders.specs.Texts.{stops as stopping};
 use crate::order::Order;
 
@@ -30,18 +28,36 @@ pub fn is_stop(byte: u8) -> bool
     !matches!(byte, b'a'..=b'z' | b'0'..=b'9' | b'_' | b'-' | b'.')
 }
 
-// Where the part that stands first ends: the first stop, or the end.
-pub fn stop(bytes: &[u8]) -> usize
-    ensures within { λ r. ⌜ r ≤ length (now (bytes .entry)) ⌝ }
-    ensures before { λ r. ⌜ All (λ b. stopping b ≡ false) (take r (now (bytes .entry))) ⌝ }
-    ensures after { λ r. ⌜ Stops (drop r (now (bytes .entry))) ⌝ }
+// The first byte at which texts stop.
+fn first_stop(bytes: &[u8]) -> Option<usize>
+    ensures { λ r. ⌜ FirstStop (now (bytes .entry)) r ⌝ }
 {
     for (i, byte) in bytes.iter().enumerate() {
         if is_stop(*byte) {
-            return i;
+            return Some(i);
         }
     }
-    bytes.len()
+    None
+}
+
+// Where the part that stands first ends: the first stop, or the end.
+pub fn stop(bytes: &[u8]) -> usize
+    ensures { λ r. ⌜ Stopped (now (bytes .entry)) r ⌝ }
+{
+    match first_stop(bytes) {
+        Some(place) => place,
+        None => bytes.len(),
+    }
+}
+
+// Copies a text over the front of the memory.
+fn copy(text: &[u8], memory: &mut [u8])
+    requires { ⌜ length (now text) ≤ length (now memory) ⌝ }
+    ensures { λ _. ⌜ now (memory .exit) ≡ now (text .entry) ++ drop (length (now (text .entry))) (now (memory .entry)) ⌝ }
+{
+    for (i, byte) in text.iter().enumerate() {
+        memory[i] = *byte;
+    }
 }
 
 // Puts a text first into the memory and answers its bytes, or 0 where it does not fit.
@@ -51,8 +67,6 @@ pub fn put(text: &[u8], memory: &mut [u8]) -> usize
     if text.len() > memory.len() {
         return 0;
     }
-    for (i, byte) in text.iter().enumerate() {
-        memory[i] = *byte;
-    }
+    copy(text, memory);
     text.len()
 }

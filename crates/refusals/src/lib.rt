@@ -56,11 +56,15 @@ pub impl fmt::Display for Refusal as RefusalDisplay {
     fn fmt<W: fmt::Write>(&self, f: &mut fmt::Formatter<W>) -> fmt::Result {
         let number = self.number();
         match self {
-            Refusal::Limit { place } | Refusal::Grammar { place } | Refusal::Word { place } | Refusal::Kind { place } => {
-                write!(f, "{number} {place}")
-            }
+            Refusal::Limit { place }
+            | Refusal::Grammar { place }
+            | Refusal::Word { place }
+            | Refusal::Kind { place } => { write!(f, "{number} {place}") }
             Refusal::NoWidest { first, second } => write!(f, "{number} {first} {second}"),
-            Refusal::Memory | Refusal::Cell | Refusal::Feature | Refusal::Full => write!(f, "{number}"),
+            Refusal::Memory | Refusal::Cell | Refusal::Feature | Refusal::Full => write!(
+                f,
+                "{number}"
+            ),
             Refusal::Clash { statement } => write!(f, "{number} {statement}"),
         }
     }

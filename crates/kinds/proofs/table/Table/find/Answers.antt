@@ -1,11 +1,12 @@
-use mathlib.Core.Path.{_≡_, _∙_, sym}
+use mathlib.Core.Path.{_≡_, _∙_, sym, subst}
 use Prim.Native.Nat.{_<_, _≤_}
 use native.Mathlib.Omega.{arith}
 use lib.ListN.{length}
 use borrow.Author.Needs.{needs}
 use borrow.Author.Count.{below-more}
 use Rattle.std.proofs.shelf.Tests.{both-ways}
-use Rattle.declarations.proofs.Sound.{not-listed}
+use Rattle.declarations.proofs.Sound.{not-listed, listed-at}
+use Rattle.declarations.specs.Lines.{Known}
 use Rattle.kinds.specs.Model.{kinds-of}
 use Rattle.kinds.proofs.Memory.{length-stored, name-stored}
 use Rattle.kinds.proofs.table.Table.find.Needs as need
@@ -13,10 +14,10 @@ use Rattle.kinds.proofs.table.Table.find.Needs as need
 pub returns-then-is : need.returns-then-is
 returns-then-is c =
     let s = c .args .self .now in
-    let l : s .count ≤ length (s .names) = search needs in (
-      omega (arith, length-stored (s .names) (s .wider) (s .count)),
-      name-stored (s .names) (s .wider) (s .count) (c .loop-kind .kind) _ (c .loop-kind-test .taken) l ∙ c .is .ensures .0 (c .if-is .taken),
-    )
+    let l : s .count ≤ length (s .names) = search needs in
+    let here : c .loop-kind .kind < length (kinds-of s) = omega (arith, length-stored (s .names) (s .wider) (s .count)) in
+    let named = name-stored (s .names) (s .wider) (s .count) (c .loop-kind .kind) _ (c .loop-kind-test .taken) l ∙ c .is .ensures .0 (c .if-is .taken) in
+    (here, named, subst (Known (kinds-of s)) named (listed-at (kinds-of s) (c .loop-kind .kind) here))
 
 pub loop-kind-again : need.loop-kind-again
 loop-kind-again c =

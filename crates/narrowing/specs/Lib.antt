@@ -1,0 +1,4 @@
+pub mod Lines
+pub mod Scanner
+pub mod Narrowing
+pub mod Shown
