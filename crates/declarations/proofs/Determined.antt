@@ -13,19 +13,13 @@ use Rattle.std.specs.declared.result.Result.the-variants.{Ok, Err}
 use Rattle.std.proofs.shelf.Lists.{take-append-drop, append-cancel-left, getD-at}
 use Rattle.std.proofs.shelf.Tests.{and-parts, both-ways, ltb-true, leb-true, not-true, cases-lt}
 use Rattle.orders.proofs.Fronts.{Ends, same-fronts}
+use Rattle.refusals.proofs.Broken.{breaks-apart, breaks-same}
+use Rattle.refusals.proofs.Known.{same-refusal}
 use Rattle.refusals.specs.declared.Refusal.{Refusal}
 use Rattle.declarations.specs.Names.{letter, name-byte, all-name, is-name, listed}
 use Rattle.declarations.specs.Declarations.{Declaration, names}
 use Rattle.declarations.specs.Lines.{tail, Line, GoesOn, Breaks, LongName, TooMuch, Known, Unknown, FirstUnknown, WrongWord, numbers, Accepts, Refuses, Declares}
 use Rattle.declarations.proofs.Words.{letter-name, blank-apart, name-some, front-at}
-
--- a line that breaks is no lawful line
-pub breaks-apart : (line : List ℕ) (p : ℕ) → Breaks line p → Line line → ⊥
-breaks-apart line p b l =
-    elim (b .1) [
-      | inl h ↦ h .1 (drop (p + 1) line, subst Line (sym (take-append-drop (p + 1) line)) l)
-      | inr h ↦ h .1 l
-    ]
 
 all-bytes : (bs : List ℕ) → all-name bs ≡ true → All (λ b. name-byte b ≡ true) bs
 unfolding all-name
@@ -73,7 +67,7 @@ known-within ds (v ∷ done) w more a = known-within ds done w more (a .1)
 module _ (limit : ℕ) (ds : List Declaration) (line : List ℕ) (d : Declaration) (a : Accepts limit ds line d) where
   pub not-refused : (e : Refusal) → Refuses limit ds line e → ⊥
   not-refused e (inl h) = a .within (h .0)
-  not-refused e (inr (inl h)) = let (p, b, is) = h .1 in breaks-apart line p b (a .words)
+  not-refused e (inr (inl h)) = let (p, b, is) = h .1 in breaks-apart Line line p b (a .words)
   not-refused e (inr (inr h)) =
       let (l, p, w, is) = h .1 in
       elim w [
@@ -92,6 +86,46 @@ module _ (limit : ℕ) (ds : List Declaration) (line : List ℕ) (d : Declaratio
       let same : other ≡ d = λ i. record { name = name i; wider = wider i } in
       (ap Ok (h .0), is ∙ ap (λ x. ds ++ x ∷ []) same)
   accepted after (Err e) h = absurd (not-refused e (h .0))
+
+-- words that are known up to the first unknown one
+same-done : (ds : List Declaration) (xs ys : List (List ℕ)) (v w : List ℕ) (vs ws : List (List ℕ)) → All (Known ds) xs → All (Known ds) ys → Unknown ds v → Unknown ds w → xs ++ v ∷ vs ≡ ys ++ w ∷ ws → xs ≡ ys
+same-done ds [] [] v w vs ws a b u x e = refl
+same-done ds [] (y ∷ ys) v w vs ws a b u x e = let first : v ≡ y = cc in absurd (both-ways _ u (subst (Known ds) (sym first) (b .0)))
+same-done ds (z ∷ xs) [] v w vs ws a b u x e = let first : z ≡ w = cc in absurd (both-ways _ x (subst (Known ds) first (a .0)))
+same-done ds (z ∷ xs) (y ∷ ys) v w vs ws a b u x e =
+    let first : z ≡ y = cc in
+    let more : xs ++ v ∷ vs ≡ ys ++ w ∷ ws = cc in
+    ap₂ (λ h t. h ∷ t) first (same-done ds xs ys v w vs ws (a .1) (b .1) u x more)
+
+module _ (limit : ℕ) (ds : List Declaration) (line : List ℕ) where
+  same-place : (l m : Line line) (p q : ℕ) → WrongWord ds line l p → WrongWord ds line m q → p ≡ q
+  same-place l m p q (inl h) (inl g) = h .1 ∙ sym (g .1)
+  same-place l m p q (inl h) (inr g) = absurd (both-ways _ (g .0) (subst (Known ds) (one-name line l m) (h .0)))
+  same-place l m p q (inr h) (inl g) = absurd (both-ways _ (h .0) (subst (Known ds) (one-name line m l) (g .0)))
+  same-place l m p q (inr h) (inr g) =
+      let f = h .1 in
+      let k = g .1 in
+      let done = same-done ds (f .done) (k .done) (f .word) (k .word) (f .more) (k .more) (f .known) (k .known) (f .unknown) (k .unknown) (sym (f .split) ∙ one-wider line l m ∙ k .split) in
+      f .place ∙ ap₂ (λ n ws. n + length (tail ws) + 1) (ap length (one-name line l m)) done ∙ sym (k .place)
+
+  pub same-refused : (e f : Refusal) → Refuses limit ds line e → Refuses limit ds line f → f ≡ e
+  same-refused e f (inl h) (inl g) = same-refusal e f 1 0 0 (h .1) (g .1) refl
+  same-refused e f (inl h) (inr (inl g)) = absurd (g .0 (h .0))
+  same-refused e f (inl h) (inr (inr g)) = absurd (g .0 (h .0))
+  same-refused e f (inr (inl h)) (inl g) = absurd (h .0 (g .0))
+  same-refused e f (inr (inl h)) (inr (inl g)) =
+      same-refusal e f 2 (h .1 .0) (g .1 .0) (h .1 .2) (g .1 .2) (breaks-same Line line (h .1 .0) (g .1 .0) (h .1 .1) (g .1 .1))
+  same-refused e f (inr (inl h)) (inr (inr g)) = absurd (breaks-apart Line line (h .1 .0) (h .1 .1) (g .1 .0))
+  same-refused e f (inr (inr h)) (inl g) = absurd (h .0 (g .0))
+  same-refused e f (inr (inr h)) (inr (inl g)) = absurd (breaks-apart Line line (g .1 .0) (g .1 .1) (h .1 .0))
+  same-refused e f (inr (inr h)) (inr (inr g)) =
+      same-refusal e f 3 (h .1 .1) (g .1 .1) (h .1 .3) (g .1 .3) (same-place (h .1 .0) (g .1 .0) (h .1 .1) (g .1 .1) (h .1 .2) (g .1 .2))
+
+  -- whatever outcome the rules allow is the one outcome
+  pub one-outcome : (after other : List Declaration) (r s : Result ℕ Refusal) → Declares limit ds line after r → Declares limit ds line other s → s ≡ r
+  one-outcome after other (Ok k) s h g = let (d, a, is) = h .1 in accepted limit ds line d a other s g .0 ∙ ap Ok (sym (h .0))
+  one-outcome after other (Err e) (Ok k) h g = let (d, a, is) = g .1 in absurd (not-refused limit ds line d a e (h .0))
+  one-outcome after other (Err e) (Err f) h g = ap Err (same-refused e f (h .0) (g .0))
 
 -- a line that is accepted, by a test
 unfoldable pub all-names : List (List ℕ) → Bool

@@ -1,6 +1,7 @@
 -- Declared kinds, in the order of their numbers, and which kinds are at or under which.
 -- Example: after `any`, the declarations `a any`, `b any` and `c a b` have the numbers 1, 2 and 3; 3 is at or under 3, 1, 2 and 0.
 use mathlib.Core.Path.{_≡_}
+use mathlib.Core.Logic.{_⊎_}
 use mathlib.Core.Bool.{Bool, true, false, not, _&&_, _||_}
 use mathlib.Core.List.{List, [], _∷_, _++_, map}
 use Prim.Native.Nat.{ℕ, _<_, _≤_}
@@ -46,6 +47,16 @@ pub record Widest (ds : List Declaration) (a b c : ℕ) : Type 0 where
 -- kinds under both a and b have no widest among them
 abbrev pub NoWidest : List Declaration → ℕ → ℕ → Type 0
 NoWidest ds a b = ((k : ℕ) × Under ds k a × Under ds k b) × ((c : ℕ) → Widest ds a b c → ⊥)
+
+-- pairs with the lower number first; of two pairs that with the lower first number, then that with the lower second number, comes before
+abbrev pub Before : ℕ → ℕ → ℕ → ℕ → Type 0
+Before x y a b = (x < a) ⊎ ((x ≡ a) × (y < b))
+
+-- a and b are the first pair whose kinds under both have no widest
+pub record First (ds : List Declaration) (a b : ℕ) : Type 0 where
+  pub order : a < b
+  pub apart : NoWidest ds a b
+  pub first : (x y : ℕ) → x < y → Before x y a b → NoWidest ds x y → ⊥
 
 -- the names so far
 abbrev pub names : List Declaration → List (List ℕ)

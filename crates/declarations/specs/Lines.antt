@@ -17,6 +17,7 @@ use Rattle.std.specs.declared.option.Option.the-variants.{Some, None}
 use Rattle.std.specs.declared.result.Result.{Result}
 use Rattle.std.specs.declared.result.Result.the-variants.{Ok, Err}
 use Rattle.refusals.specs.declared.Refusal.{Refusal}
+use Rattle.refusals.specs.Places as places
 use Rattle.refusals.specs.Table.{row}
 use Rattle.declarations.specs.Names.{is-name, listed}
 use Rattle.declarations.specs.Declarations.{Declaration, name-of, names}
@@ -37,12 +38,11 @@ pub record Line (line : List ℕ) : Type 0 where
 
 -- some lawful line begins so
 abbrev pub GoesOn : List ℕ → Type 0
-GoesOn front = (rest : List ℕ) × Line (front ++ rest)
+GoesOn front = places.GoesOn Line front
 
 -- reason 2: p is the first byte at which no lawful line goes on, or the length of a line that only ends too early
 abbrev pub Breaks : List ℕ → ℕ → Type 0
-Breaks line p =
-    GoesOn (take p line) × (((p < length line) × (GoesOn (take (p + 1) line) → ⊥)) ⊎ ((p ≡ length line) × (Line line → ⊥)))
+Breaks line p = places.Breaks Line line p
 
 abbrev pub Scanned : List ℕ → Option ℕ → Type 0
 Scanned line None = Line line

@@ -26,7 +26,7 @@ use Rattle.declarations.specs.Lines.{tail, Line, GoesOn, Breaks, LongName, TooM
 use Rattle.declarations.specs.Rows.{bit, members}
 use Rattle.declarations.proofs.Sound.{listed-is}
 use Rattle.declarations.proofs.Words.{name-some, name-at, blank-apart}
-use Rattle.declarations.proofs.Determined.{breaks-apart}
+use Rattle.refusals.proofs.Broken.{breaks-apart}
 use Rattle.kinds.specs.Model.{Gathers}
 use Rattle.kinds.proofs.Members.{members-below, members-some, kept-same}
 
@@ -135,7 +135,7 @@ begins line end fits within name most n held =
 module _ (ds : List Declaration) (line : List ℕ) (end : ℕ) (b : Begun line end) where
   pub refuses-grammar : (p : ℕ) → Breaks line p → Refuses 64 ds line (Grammar p)
   refuses-grammar p h =
-      inr (inl (not-much line end (b .within) (b .name) (b .most) ds (b .fits) (b .short) (λ l. absurd (breaks-apart line p h l)), (p, h, refl)))
+      inr (inl (not-much line end (b .within) (b .name) (b .most) ds (b .fits) (b .short) (λ l. absurd (breaks-apart Line line p h l)), (p, h, refl)))
 
   module _ (l : Line line) (room : length ds < 64) where
     not-much-here : TooMuch 64 ds line → ⊥

@@ -7,3 +7,4 @@ pub mod Pairing
 pub mod Declaring
 pub mod Listing
 pub mod Ships
+pub mod Closed

@@ -11,12 +11,11 @@ use lib.Dec.{eqb}
 use lib.ListN.{length, getD, take}
 use Rattle.std.proofs.shelf.Lists.{getD-take}
 use Rattle.std.proofs.shelf.Tests.{eq-eqb, ne-eqb, or-left, cases-lt}
-use Rattle.declarations.specs.Declarations.{Declaration, NoWidest, sound}
+use Rattle.declarations.specs.Declarations.{Declaration, NoWidest, First, Before, sound}
 use Rattle.declarations.specs.Rows.{row, rows-of, meets, closed}
 use Rattle.declarations.proofs.Grown.{Right, rows-right}
 use Rattle.declarations.proofs.Closing.{low-within, not-meets, meets-not, closed-pairs}
 use Rattle.declarations.proofs.Ordered.{strays-common, common-not}
-use Rattle.kinds.specs.Model.{First, Before}
 
 module _ (ds : List Declaration) (rows : List ℕ) (n : ℕ) (ok : sound ds ≡ true) (size : length ds ≡ n) (few : n ≤ 64) (right : take n rows ≡ rows-of ds) where
   pub row-is : (i : ℕ) → i < n → getD rows i 0 ≡ row (rows-of ds) i

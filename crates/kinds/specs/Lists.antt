@@ -11,14 +11,18 @@ use Rattle.orders.specs.Meaning.{Meaning}
 use Rattle.orders.specs.Texts.{Texts}
 use Rattle.refusals.specs.declared.Refusal.{Refusal}
 use Rattle.refusals.specs.Table.{row}
-use Rattle.declarations.specs.Declarations.{Declaration, NoWidest}
+use Rattle.declarations.specs.Declarations.{Declaration, NoWidest, First}
 use Rattle.declarations.specs.Rows.{rows-of, closed}
 use Rattle.declarations.proofs.Ordered.{order-of}
 use Rattle.declarations.proofs.Named.{texts-of}
 use Rattle.kinds.specs.declared.draft.Draft.{Draft}
 use Rattle.kinds.specs.declared.list.List as closed-list
 use Rattle.kinds.specs.Stored.{stored-at}
-use Rattle.kinds.specs.Model.{kinds-of, First}
+use Rattle.kinds.specs.Model.{kinds-of}
+
+-- a closed list
+abbrev pub Closing : Type 0
+Closing = closed-list.List
 
 abbrev pub drafted : Draft → List Declaration
 drafted d = kinds-of (d .table)

@@ -1,7 +1,6 @@
 -- What the calls on declared kinds answer.
 use mathlib.Core.Path.{_≡_}
 use mathlib.Core.Bool.{true, false}
-use mathlib.Core.Logic.{_⊎_}
 use mathlib.Core.List.{List, [], _∷_, _++_}
 use Prim.Native.Nat.{ℕ, _+_, _^_, _<_, _≤_}
 use lib.ListN.{length}
@@ -14,7 +13,7 @@ use Rattle.refusals.specs.declared.Refusal.{Refusal}
 use Rattle.refusals.specs.Table.{row}
 use Rattle.declarations.specs.Names.{is-name, listed}
 use Rattle.declarations.specs.Held.{name-bytes}
-use Rattle.declarations.specs.Declarations.{Declaration, name-of, follows, NoWidest}
+use Rattle.declarations.specs.Declarations.{Declaration, name-of, follows, NoWidest, First}
 use Rattle.declarations.specs.Lines.{tail, Known, Unknown, FirstUnknown, Accepts, Refuses}
 use Rattle.declarations.specs.Rows.{bit, members, rows-of, meets, closed}
 use Rattle.kinds.specs.declared.draft.declares.Declared.{Declared}
@@ -50,16 +49,6 @@ Reads ds line count (Err e) = Refuses 64 ds line e
 abbrev pub FirstPast : List ℕ → ℕ → ℕ → Option ℕ → Type 0
 FirstPast rows n a (Some b) = (a < b) × (b < n) × (meets 64 rows a b ≡ false) × ((y : ℕ) → a < y → y < b → meets 64 rows a y ≡ true)
 FirstPast rows n a None = (y : ℕ) → a < y → y < n → meets 64 rows a y ≡ true
-
--- pairs with the lower number first; of two pairs that with the lower first number, then that with the lower second number, comes before
-abbrev pub Before : ℕ → ℕ → ℕ → ℕ → Type 0
-Before x y a b = (x < a) ⊎ ((x ≡ a) × (y < b))
-
--- a and b are the first pair whose kinds under both have no widest
-pub record First (ds : List Declaration) (a b : ℕ) : Type 0 where
-  pub order : a < b
-  pub apart : NoWidest ds a b
-  pub first : (x y : ℕ) → x < y → Before x y a b → NoWidest ds x y → ⊥
 
 abbrev pub FirstPair : List Declaration → Option (ℕ × ℕ) → Type 0
 FirstPair ds (Some p) = First ds (p .0) (p .1)

@@ -1,4 +1,7 @@
 // Reads lines with two kinds each, and writes for each line the kind that both have in common.
+ghost use mathlib.Core.Path.{_≡_};
+ghost use Rattle.kinds.specs.Lists.{listing};
+ghost use Rattle.kinds.specs.Shipped.{shipped as shipped-kinds};
 use bands::order::Bands;
 use bands::order::BandsOrder;
 use bands::texts::BandsWrittenOrder;
@@ -16,7 +19,9 @@ use std::io::BufReader;
 use std::io::Write;
 
 // The order that the kinds are of: the shipped list and bands of amounts.
-fn amounts() -> Pair<List, Bands> {
+fn amounts() -> Pair<List, Bands>
+    ensures { λ r. ⌜ listing (r .first) ≡ shipped-kinds ⌝ }
+{
     Pair {
         first: shipped(),
         second: Bands,

@@ -1,14 +1,9 @@
 -- A line has one answer: its texts, the place where it breaks and its refusal are fixed.
-use mathlib.Core.Path.{_≡_, refl, sym, ap, _∙_, subst}
+use mathlib.Core.Path.{_≡_, refl, sym, ap, _∙_}
 use mathlib.Core.Logic.{_⊎_, inl, inr}
-use mathlib.Core.Bool.{cond}
-use mathlib.Core.List.{List, [], _∷_, _++_, append-assoc}
-use Prim.Native.Nat.{ℕ, _+_, _≤_, _<_}
-use native.Mathlib.Omega.{arith}
-use lib.Dec.{eqb}
-use lib.ListN.{length, getD, take, drop}
-use Rattle.std.proofs.shelf.Lists.{take-append-drop, take-take}
-use Rattle.std.proofs.shelf.Tests.{cases-order}
+use mathlib.Core.List.{List}
+use Prim.Native.Nat.{ℕ, _+_}
+use lib.ListN.{length}
 use Rattle.std.specs.declared.option.Option.{Option}
 use Rattle.std.specs.declared.option.Option.the-variants.{Some}
 use Rattle.std.specs.declared.result.Result.{Result}
@@ -16,67 +11,12 @@ use Rattle.std.specs.declared.result.Result.the-variants.{Ok, Err}
 use Rattle.orders.specs.Meaning.{Meaning}
 use Rattle.orders.specs.Texts.{Texts}
 use Rattle.refusals.specs.declared.Refusal.{Refusal}
-use Rattle.refusals.specs.declared.Refusal.the-variants.{Limit, Grammar, Word, Kind, NoWidest, Memory, Cell, Feature, Full, Clash}
-use Rattle.refusals.specs.Table.{Row, row}
+use Rattle.refusals.proofs.Broken.{breaks-apart, breaks-same}
+use Rattle.refusals.proofs.Known.{same-refusal}
 use Rattle.narrowing.specs.declared.narrow.Narrowed.{Narrowed}
-use Rattle.narrowing.specs.Lines.{Line, GoesOn, Breaks}
+use Rattle.narrowing.specs.Lines.{Line}
 use Rattle.narrowing.specs.Narrowing.{TooLong, WrongText, Unlawful, Refuses, Answers, Narrows}
 use Rattle.narrowing.proofs.Blanks.{same-first, same-second}
-
--- a refusal is known by its row
-abbrev refusal : Row → Refusal
-refusal r =
-    let a = getD (r .values) 0 0 in
-    cond (eqb (r .number) 1) (Limit a) (cond (eqb (r .number) 2) (Grammar a) (cond (eqb (r .number) 3) (Word a) (cond (eqb (r .number) 4) (Kind a)
-    (cond (eqb (r .number) 5) (NoWidest a (getD (r .values) 1 0)) (cond (eqb (r .number) 6) Memory (cond (eqb (r .number) 7) Cell
-    (cond (eqb (r .number) 8) Feature (cond (eqb (r .number) 9) Full (Clash a)))))))))
-
-row-back : (e : Refusal) → refusal (row e) ≡ e
-row-back (Limit p) = refl
-row-back (Grammar p) = refl
-row-back (Word p) = refl
-row-back (Kind p) = refl
-row-back (NoWidest p q) = refl
-row-back Memory = refl
-row-back Cell = refl
-row-back Feature = refl
-row-back Full = refl
-row-back (Clash p) = refl
-
-abbrev row-at : ℕ → ℕ → Row
-row-at n p = record { number = n; values = p ∷ [] }
-
-same-refusal : (e f : Refusal) (n p q : ℕ) → row e ≡ row-at n p → row f ≡ row-at n q → p ≡ q → f ≡ e
-same-refusal e f n p q a b s = sym (row-back f) ∙ ap refusal (b ∙ ap (row-at n) (sym s) ∙ sym a) ∙ row-back e
-
--- what a front of a front goes on with
-front-goes-on : (line : List ℕ) (p q : ℕ) → p ≤ q → GoesOn (take q line) → GoesOn (take p line)
-front-goes-on line p q h g =
-    let (rest, l) = g in
-    let e : take q line ++ rest ≡ take p line ++ (drop p (take q line) ++ rest) =
-    ap (λ x. x ++ rest) (sym (take-append-drop p (take q line))) ∙ append-assoc (take p (take q line)) (drop p (take q line)) rest
-    ∙ ap (λ x. x ++ (drop p (take q line) ++ rest)) (take-take p q line h) in
-    (drop p (take q line) ++ rest, subst Line e l)
-
-line-goes-on : (line : List ℕ) (p : ℕ) → Line line → GoesOn (take p line)
-line-goes-on line p l = (drop p line, subst Line (sym (take-append-drop p line)) l)
-
-breaks-line : (line : List ℕ) (p : ℕ) → Breaks line p → Line line → ⊥
-breaks-line line p b l = elim (b .1) [ inl h ↦ h .1 (line-goes-on line (p + 1) l) | inr h ↦ h .1 l ]
-
-breaks-order : (line : List ℕ) (p q : ℕ) → Breaks line p → Breaks line q → p < q → ⊥
-breaks-order line p q b d h =
-    elim (b .1) [
-      | inl s ↦ s .1 (front-goes-on line (p + 1) q (omega arith) (d .0))
-      | inr s ↦ elim (d .1) [ inl t ↦ omega (arith, s .0, t .0) | inr t ↦ omega (arith, s .0, t .0) ]
-    ]
-
-breaks-same : (line : List ℕ) (p q : ℕ) → Breaks line p → Breaks line q → p ≡ q
-breaks-same line p q b d =
-    elim (cases-order p q) [
-      | inl h ↦ h
-      | inr o ↦ elim o [ inl h ↦ absurd (breaks-order line p q b d h) | inr h ↦ absurd (breaks-order line q p d b h) ]
-    ]
 
 module _ {K : Type 0} (o : Meaning K) (m : Texts K) (line : List ℕ) where
   -- a text that no kind has, and a line whose texts are kinds'
@@ -90,7 +30,7 @@ module _ {K : Type 0} (o : Meaning K) (m : Texts K) (line : List ℕ) where
   pub refused-not-answered : (e : Refusal) (n : Narrowed K) → Refuses m line e → Answers o m line n → ⊥
   refused-not-answered e n r a =
       elim r [
-        | inl u ↦ elim u [ inl h ↦ a .within (h .0) | inr h ↦ breaks-line line (h .1 .0) (h .1 .1) (a .words) ]
+        | inl u ↦ elim u [ inl h ↦ a .within (h .0) | inr h ↦ breaks-apart Line line (h .1 .0) (h .1 .1) (a .words) ]
         | inr h ↦ wrong-text (h .1 .0) (h .1 .1) (h .1 .2) n a
       ]
 
@@ -123,15 +63,15 @@ module _ {K : Type 0} (o : Meaning K) (m : Texts K) (line : List ℕ) where
           | inr h ↦ elim s [
             | inl v ↦ elim v [
               | inl g ↦ absurd (h .0 (g .0))
-              | inr g ↦ same-refusal e f 2 (h .1 .0) (g .1 .0) (h .1 .2) (g .1 .2) (breaks-same line (h .1 .0) (g .1 .0) (h .1 .1) (g .1 .1))
+              | inr g ↦ same-refusal e f 2 (h .1 .0) (g .1 .0) (h .1 .2) (g .1 .2) (breaks-same Line line (h .1 .0) (g .1 .0) (h .1 .1) (g .1 .1))
             ]
-            | inr g ↦ absurd (breaks-line line (h .1 .0) (h .1 .1) (g .1 .0))
+            | inr g ↦ absurd (breaks-apart Line line (h .1 .0) (h .1 .1) (g .1 .0))
           ]
         ]
         | inr h ↦ elim s [
           | inl v ↦ elim v [
             | inl g ↦ absurd (h .0 (g .0))
-            | inr g ↦ absurd (breaks-line line (g .1 .0) (g .1 .1) (h .1 .0))
+            | inr g ↦ absurd (breaks-apart Line line (g .1 .0) (g .1 .1) (h .1 .0))
           ]
           | inr g ↦ same-refusal e f 4 (h .1 .1) (g .1 .1) (h .1 .3) (g .1 .3) (same-place (h .1 .0) (g .1 .0) (h .1 .1) (g .1 .1) (h .1 .2) (g .1 .2))
         ]

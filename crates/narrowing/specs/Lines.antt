@@ -3,13 +3,12 @@
 -- A line is a text, a blank and a text: `rent_dd/4000..4000 receipt/1..100000`.
 -- It breaks at a place: `rent`, at 4, since it ends too early; `rent  any`, at 5; `Rent any`, at 0; `rent any fee`, at 8.
 use mathlib.Core.Path.{_≡_}
-use mathlib.Core.Logic.{_⊎_}
-use mathlib.Core.List.{List, [], _∷_, _++_}
-use Prim.Native.Nat.{ℕ, _+_, _<_}
-use lib.ListN.{length, take}
+use mathlib.Core.List.{List, _∷_, _++_}
+use Prim.Native.Nat.{ℕ}
 use Rattle.std.specs.declared.option.Option.{Option}
 use Rattle.std.specs.declared.option.Option.the-variants.{Some, None}
 use Rattle.orders.specs.Texts.{IsText}
+use Rattle.refusals.specs.Places as places
 
 -- a lawful line, by its texts
 pub record Line (line : List ℕ) : Type 0 where
@@ -21,12 +20,11 @@ pub record Line (line : List ℕ) : Type 0 where
 
 -- some lawful line begins so
 abbrev pub GoesOn : List ℕ → Type 0
-GoesOn front = (rest : List ℕ) × Line (front ++ rest)
+GoesOn front = places.GoesOn Line front
 
 -- p is the first byte at which no lawful line goes on, or the length of a line that only ends too early
 abbrev pub Breaks : List ℕ → ℕ → Type 0
-Breaks line p =
-    GoesOn (take p line) × (((p < length line) × (GoesOn (take (p + 1) line) → ⊥)) ⊎ ((p ≡ length line) × (Line line → ⊥)))
+Breaks line p = places.Breaks Line line p
 
 -- whether a line is lawful, or where it breaks
 abbrev pub Scanned : List ℕ → Option ℕ → Type 0

@@ -1,9 +1,11 @@
 // Closing a draft.
 ghost use mathlib.Core.Path.{_≡_};
 ghost use Prim.Native.Nat.{_<_};
+ghost use Rattle.std.specs.declared.result.Result.{Result};
+ghost use Rattle.refusals.specs.declared.Refusal.{Refusal};
 ghost use Rattle.declarations.specs.Rows.{rows-of};
 ghost use Rattle.declarations.specs.Rows.{meets as meeting};
-ghost use Rattle.kinds.specs.Lists.{drafted, Closes};
+ghost use Rattle.kinds.specs.Lists.{drafted, Closes, Closing};
 ghost use Rattle.kinds.specs.Model.{kinds-of, FirstPast, FirstPair};
 use crate::draft::Draft;
 use crate::list::List;
@@ -44,16 +46,25 @@ fn first_apart(table: &Table) -> Option<(usize, usize)>
     None
 }
 
+// Fills the list where every two kinds meet.
+fn close_draft(draft: Draft, list: &mut List) -> Result<(), Refusal>
+    ensures answer { λ r. ⌜ Closes (drafted draft) (now (list .entry)) (now (list .exit)) r ⌝ }
+    ensures fixed { λ r. ⌜ ((s : Result (Unit {0}) Refusal) (after : Closing) → Closes (drafted draft) (now (list .entry)) after s → s ≡ r) ⌝ }
+{
+    let Draft { table } = draft;
+    if let Some((first, second)) = first_apart(&table) {
+        return Err(Refusal::NoWidest { first, second });
+    }
+    *list = List { table };
+    Ok(())
+}
+
 impl Draft {
-    // Closes the draft and uses it up: the list becomes the order of its kinds.
+    // Closes the draft and uses it up: the list becomes the order of its kinds. The rules fix the answer.
     pub fn close(self, list: &mut List) -> Result<(), Refusal>
-        ensures { λ r. ⌜ Closes (drafted self) (now (list .entry)) (now (list .exit)) r ⌝ }
+        ensures answer { λ r. ⌜ Closes (drafted self) (now (list .entry)) (now (list .exit)) r ⌝ }
+        ensures fixed { λ r. ⌜ ((s : Result (Unit {0}) Refusal) (after : Closing) → Closes (drafted self) (now (list .entry)) after s → s ≡ r) ⌝ }
     {
-        let Draft { table } = self;
-        if let Some((first, second)) = first_apart(&table) {
-            return Err(Refusal::NoWidest { first, second });
-        }
-        *list = List { table };
-        Ok(())
+        close_draft(self, list)
     }
 }

@@ -6,7 +6,9 @@ ghost use Prim.Native.Nat.{ℕ, _+_, _^_, _<_};
 ghost use lib.ListN.{length, take, drop};
 ghost use Rattle.std.specs.Results.{isErr};
 ghost use Rattle.std.specs.shelf.Lists.{All};
-ghost use Rattle.declarations.specs.Declarations.{follows};
+ghost use Rattle.std.specs.declared.result.Result.{Result};
+ghost use Rattle.refusals.specs.declared.Refusal.{Refusal};
+ghost use Rattle.declarations.specs.Declarations.{Declaration, follows};
 ghost use Rattle.declarations.specs.Held.{name-bytes};
 ghost use Rattle.declarations.specs.Lines.{tail, Declares};
 ghost use Rattle.declarations.specs.Names.{is-name};
@@ -111,15 +113,25 @@ fn read(table: &Table, line: &[u8]) -> Result<Declared, Refusal>
     Ok(Declared { name, wider })
 }
 
+// Reads the line and adds the kind that it declares.
+fn declare_line(draft: &mut Draft, line: &[u8]) -> Result<usize, Refusal>
+    ensures answer { λ r. ⌜ Declares 64 (drafted (now (draft .entry))) (now (line .entry)) (drafted (now (draft .exit))) r ⌝ }
+    ensures kept { λ r. ⌜ (isErr r ≡ true → now (draft .exit) ≡ now (draft .entry)) ⌝ }
+    ensures fixed { λ r. ⌜ ((s : Result ℕ Refusal) (after : List Declaration) → Declares 64 (drafted (now (draft .entry))) (now (line .entry)) after s → s ≡ r) ⌝ }
+{
+    match read(&draft.table, line) {
+        Ok(kind) => Ok(add(&mut draft.table, kind.name, kind.wider)),
+        Err(refusal) => Err(refusal),
+    }
+}
+
 impl Draft {
-    // Declares the kind of a line, and answers its number.
+    // Declares the kind of a line, and answers its number. The rules fix the answer: whatever meets them is this one.
     pub fn declare(&mut self, line: &[u8]) -> Result<usize, Refusal>
         ensures answer { λ r. ⌜ Declares 64 (drafted (now (self .entry))) (now (line .entry)) (drafted (now (self .exit))) r ⌝ }
         ensures kept { λ r. ⌜ (isErr r ≡ true → now (self .exit) ≡ now (self .entry)) ⌝ }
+        ensures fixed { λ r. ⌜ ((s : Result ℕ Refusal) (after : List Declaration) → Declares 64 (drafted (now (self .entry))) (now (line .entry)) after s → s ≡ r) ⌝ }
     {
-        match read(&self.table, line) {
-            Ok(kind) => Ok(add(&mut self.table, kind.name, kind.wider)),
-            Err(refusal) => Err(refusal),
-        }
+        declare_line(self, line)
     }
 }

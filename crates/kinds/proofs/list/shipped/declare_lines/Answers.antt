@@ -19,5 +19,5 @@ pub returns : need.returns
 returns c =
     let i : c .loop-i .i + 1 ≡ 10 = omega arith in
     let all : drafted (c .loop-i .draft) ≡ shipped = c .loop-i .inv ∙ ap (λ n. take n shipped) i in
-    let p = closes _ _ _ (subst (λ ds. Closes ds (c .args .list .now) (c .close .last .list) (c .close .result)) all (c .close .ensures)) in
+    let p = closes _ _ _ (subst (λ ds. Closes ds (c .args .list .now) (c .close .last .list) (c .close .result)) all (c .close .ensures .answer)) in
     record { answer = p .0; after = p .1 }
