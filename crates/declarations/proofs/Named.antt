@@ -15,7 +15,7 @@ use Rattle.std.proofs.shelf.Tests.{and-parts, or-cases, or-left, or-right, case
 use Rattle.orders.specs.Texts.{Texts, IsText, part-byte, text-byte, stops}
 use Rattle.orders.proofs.Singles.{ReadsWhole}
 use Rattle.declarations.specs.Names.{letter, name-byte, all-name, is-name, listed}
-use Rattle.declarations.specs.Declarations.{Declaration, name-of, names, sound}
+use Rattle.declarations.specs.Declarations.{Declaration, name-of, name-text, names, sound}
 use Rattle.declarations.proofs.Sound.{is-named, same-name, listed-at}
 use Rattle.declarations.proofs.Words.{name-some, letter-name}
 
@@ -37,10 +37,6 @@ all-parts (b ∷ bs) a = let p = and-parts (name-byte b) _ a in (name-part b (p 
 name-parts : (w : List ℕ) → is-name w ≡ true → All (λ b. part-byte b ≡ true) w
 name-parts [] n = absurd (both-ways false refl n)
 name-parts (b ∷ bs) n = let p = and-parts (letter b) _ n in (name-part b (letter-name b (p .0)), all-parts bs (p .1))
-
--- the name of a kind is its text; a number past the last kind has none
-abbrev pub name-text : List Declaration → ℕ → Option (List ℕ)
-name-text ds k = cond (ltb k (length ds)) (Some (name-of ds k)) None
 
 pub text-past : (ds : List Declaration) (k : ℕ) → length ds ≤ k → name-text ds k ≡ None
 text-past ds k l = cond-false _ (Some (name-of ds k)) None (le-ltb k (length ds) l)

@@ -2,12 +2,15 @@
 -- Example: after `any`, the declarations `a any`, `b any` and `c a b` have the numbers 1, 2 and 3; 3 is at or under 3, 1, 2 and 0.
 use mathlib.Core.Path.{_≡_}
 use mathlib.Core.Logic.{_⊎_}
-use mathlib.Core.Bool.{Bool, true, false, not, _&&_, _||_}
+use mathlib.Core.Bool.{Bool, true, false, not, _&&_, _||_, cond}
 use mathlib.Core.List.{List, [], _∷_, _++_, map}
 use Prim.Native.Nat.{ℕ, _<_, _≤_}
 use lib.Dec.{eqb, ltb}
 use lib.ListN.{length, getD}
+use lib.Chars.{codes}
 use Rattle.std.specs.shelf.Text.{sameBytes}
+use Rattle.std.specs.declared.option.Option.{Option}
+use Rattle.std.specs.declared.option.Option.the-variants.{Some, None}
 use Rattle.declarations.specs.Names.{is-name, listed}
 
 -- a kind's name, and the numbers of its wider kinds, rising
@@ -17,7 +20,7 @@ pub record Declaration : Type 0 where
 
 -- kind 0, the widest: its name is `any`
 abbrev pub any : Declaration
-any = record { name = 97 ∷ 110 ∷ 121 ∷ []; wider = [] }
+any = record { name = codes "any"; wider = [] }
 
 -- what a number past the last kind counts as: a kind with no name, under `any` only
 abbrev pub stray : Declaration
@@ -25,6 +28,10 @@ stray = record { name = []; wider = 0 ∷ [] }
 
 abbrev pub name-of : List Declaration → ℕ → List ℕ
 name-of ds k = getD ds k stray .name
+
+-- the name of a kind is its text; a number past the last kind has none
+abbrev pub name-text : List Declaration → ℕ → Option (List ℕ)
+name-text ds k = cond (ltb k (length ds)) (Some (name-of ds k)) None
 
 abbrev pub wider-of : List Declaration → ℕ → List ℕ
 wider-of ds k = getD ds k stray .wider

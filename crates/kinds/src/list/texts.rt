@@ -1,7 +1,7 @@
 // The texts of a list's kinds: their names.
 ghost use Rattle.orders.specs.Texts.{Back, Taken, Writes};
 ghost use Rattle.kinds.specs.Lists.{list-texts, listing};
-ghost use Rattle.declarations.proofs.Named.{name-text};
+ghost use Rattle.declarations.specs.Declarations.{name-text};
 use super::List;
 use crate::list::order::ListOrder;
 use orders::texts::WrittenOrder;

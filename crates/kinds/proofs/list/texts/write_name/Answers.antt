@@ -5,7 +5,8 @@ use lib.ListN.{length}
 use borrow.Author.Needs.{needs}
 use Rattle.std.specs.declared.option.Option.the-variants.{Some}
 use Rattle.orders.specs.Texts.{Writes}
-use Rattle.declarations.proofs.Named.{name-text, text-past, text-here}
+use Rattle.declarations.specs.Declarations.{name-text}
+use Rattle.declarations.proofs.Named.{text-past, text-here}
 use Rattle.kinds.specs.Lists.{listing}
 use Rattle.kinds.proofs.Memory.{length-stored, name-stored}
 use Rattle.kinds.proofs.list.texts.write_name.Needs as need
