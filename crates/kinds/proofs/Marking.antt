@@ -9,7 +9,6 @@ use lib.Dec.{eqb}
 use lib.ListN.{length, getD, set, take, drop}
 use Rattle.std.proofs.shelf.Bits.{one-shl}
 use Rattle.std.proofs.shelf.Lists.{drop-more, map-more, set-at, getD-at, length-map, length-take-le, take-more-set, take-at}
-use Rattle.std.proofs.shelf.Tests.{cond-true, cond-false, eq-eqb, ne-eqb}
 use Rattle.declarations.specs.Rows.{grown, add-row}
 
 module _ (count wider : ℕ) (before : List ℕ) (i : ℕ) (l : i < length before) where
@@ -30,22 +29,13 @@ module _ (count wider : ℕ) (before : List ℕ) (i : ℕ) (l : i < length befor
   unfolding done
   more-is = sym (append-assoc done (grown count wider (getD before i 0) ∷ []) (drop (i + 1) before)) ∙ ap (λ x. x ++ drop (i + 1) before) (sym (map-more (grown count wider) before i 0 l))
 
-  pub marked-row : (rows : List ℕ) (r : ℕ) → rows ≡ map (grown count wider) (take i before) ++ drop i before → count < 64 → r ≡ getD rows i 0 → (bitAnd r wider ≡ 0 → ⊥) → set rows i (bitOr r ((1 * 2 ^ count) % 2 ^ 64)) ≡ map (grown count wider) (take (i + 1) before) ++ drop (i + 1) before
+  pub grown-row : (rows : List ℕ) (r : ℕ) → rows ≡ map (grown count wider) (take i before) ++ drop i before → count < 64 → r ≡ cond (eqb (bitAnd (getD rows i 0) wider) 0) (getD rows i 0) (bitOr (getD rows i 0) ((1 * 2 ^ count) % 2 ^ 64)) → set rows i r ≡ map (grown count wider) (take (i + 1) before) ++ drop (i + 1) before
   unfolding done
-  marked-row rows r e few is ne =
-      let was : r ≡ getD before i 0 = is ∙ rows-at rows e in
-      let new : bitOr r ((1 * 2 ^ count) % 2 ^ 64) ≡ grown count wider (getD before i 0) =
-      ap (bitOr r) (one-shl count 64 few) ∙ sym (cond-false _ r (bitOr r (2 ^ count)) (ne-eqb _ _ ne)) ∙ ap (grown count wider) was in
+  grown-row rows r e few is =
+      let new : r ≡ grown count wider (getD before i 0) =
+      is ∙ ap (λ b. cond (eqb (bitAnd (getD rows i 0) wider) 0) (getD rows i 0) (bitOr (getD rows i 0) b)) (one-shl count 64 few) ∙ ap (grown count wider) (rows-at rows e) in
       ap (λ x. set rows i x) new ∙ ap (λ x. set x i (grown count wider (getD before i 0))) (e ∙ ap (λ x. done ++ x) (drop-more before i 0 l))
       ∙ set-at done (getD before i 0) (drop (i + 1) before) (grown count wider (getD before i 0)) i done-length ∙ more-is
-
-  pub kept-row : (rows : List ℕ) (r : ℕ) → rows ≡ map (grown count wider) (take i before) ++ drop i before → r ≡ getD rows i 0 → bitAnd r wider ≡ 0 → rows ≡ map (grown count wider) (take (i + 1) before) ++ drop (i + 1) before
-  unfolding done
-  kept-row rows r e is z =
-      let was : r ≡ getD before i 0 = is ∙ rows-at rows e in
-      let same : getD before i 0 ≡ grown count wider (getD before i 0) =
-      sym was ∙ sym (cond-true _ r (bitOr r (2 ^ count)) (eq-eqb _ _ z)) ∙ ap (grown count wider) was in
-      e ∙ ap (λ x. done ++ x) (drop-more before i 0 l) ∙ ap (λ x. done ++ x ∷ drop (i + 1) before) same ∙ more-is
 
 pub marked : (count wider : ℕ) (before rows : List ℕ) → count < 64 → count < length before → length rows ≡ length before → rows ≡ map (grown count wider) (take count before) ++ drop count before → take (count + 1) (set rows count ((1 * 2 ^ count) % 2 ^ 64)) ≡ add-row (take count before) wider
 marked count wider before rows few l size e =

@@ -1,8 +1,10 @@
 // Declaring a kind.
 ghost use mathlib.Core.Path.{_≡_};
-ghost use mathlib.Core.Bool.{true};
+ghost use mathlib.Core.Bool.{true, cond};
 ghost use mathlib.Core.List.{List, [], _∷_, _++_};
 ghost use Prim.Native.Nat.{ℕ, _+_, _^_, _<_};
+ghost use lib.Bits.{bitAnd, bitOr};
+ghost use lib.Dec.{eqb};
 ghost use lib.ListN.{length, take, drop};
 ghost use Rattle.std.specs.Results.{isErr};
 ghost use Rattle.std.specs.shelf.Lists.{All};
@@ -36,6 +38,13 @@ struct Declared {
     wider: u64,
 }
 
+// A row once a kind is declared: it has the kind's bit if one of the wider kinds is in it.
+fn grow(row: u64, wider: u64, bit: u64) -> u64
+    ensures { λ r. ⌜ r ≡ cond (eqb (bitAnd row wider) 0) row (bitOr row bit) ⌝ }
+{
+    if row & wider != 0 { row | bit } else { row }
+}
+
 // Puts the kind `count` into the rows: it is at or under itself and all that one of its wider kinds is at or under.
 fn mark(rows: &mut [u64], count: usize, wider: u64)
     requires { ⌜ count < 64 ⌝ ∗ ⌜ count < length (now rows) ⌝ }
@@ -43,9 +52,7 @@ fn mark(rows: &mut [u64], count: usize, wider: u64)
 {
     let bit = 1 << count;
     for i in 0..count {
-        if rows[i] & wider != 0 {
-            rows[i] |= bit;
-        }
+        rows[i] = grow(rows[i], wider, bit);
     }
     rows[count] = bit;
 }
