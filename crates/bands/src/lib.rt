@@ -2,6 +2,8 @@
 //
 // `Band`   a lowest and a highest amount
 // `Bands`  the order of the bands: what lies within what
+#![tactic(auto)]
+
 pub mod band;
 pub mod order;
 mod reading;

@@ -5,5 +5,7 @@
 //
 // `specs/` has the grammar, the relation "at or under", the refusals of a line and the rows of bits;
 // `proofs/` the theory, over the declarations and a limit, for every list of kinds.
+#![tactic(auto)]
+
 pub mod line;
 pub mod name;

@@ -1,4 +1,6 @@
 // Worked examples over orders, lists of kinds, bands, pairs, features and terms: all of them tests, to be read first.
+#![tactic(auto)]
+
 #[cfg(test)]
 mod declared;
 #[cfg(test)]

@@ -4,4 +4,6 @@
 //
 // `specs/` has trees and their writing, what a tree says, what a line is refused for, and the test that the statements of
 // every term keep; `proofs/` the theory of these, which the reader of lines rests on.
+#![tactic(auto)]
+
 pub mod statement;

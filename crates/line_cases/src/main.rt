@@ -2,6 +2,8 @@
 //
 // A line of the input is a line of the language, a tab, and its outcome: the statements with one blank between, as
 // `X1:any/1..9 X1.paid=X2`, or `!`, the number of the refusal and its place. `room 3` takes a term with room for three statements.
+#![tactic(auto)]
+
 use anyhow::anyhow;
 use bands::order::Bands;
 use features::table::Features;

@@ -1,4 +1,6 @@
 // Reads lines, and writes each line and below it what it says: its statements, or why it is refused.
+#![tactic(auto)]
+
 ghost use Rattle.std.specs.Prelude.{◌≡◌, [], ◌∷◌, ◌++◌, IfOk, codes, OnOk};
 ghost use Rattle.kinds.specs.Lists.{listing};
 ghost use Rattle.kinds.specs.Shipped.{shipped as shipped-kinds};

@@ -1,4 +1,6 @@
 // Reads lines with two kinds each, and writes for each line the kind that both have in common.
+#![tactic(auto)]
+
 ghost use Rattle.std.specs.Prelude.{◌≡◌};
 ghost use Rattle.kinds.specs.Lists.{listing};
 ghost use Rattle.kinds.specs.Shipped.{shipped as shipped-kinds};

@@ -2,6 +2,8 @@
 //
 // `narrow`  the two kinds of a line and their common kind, or why the line is refused
 // `report`  the same as a line of text
+#![tactic(auto)]
+
 mod line;
 pub mod narrow;
 pub mod report;

@@ -5,6 +5,8 @@
 // `Pair`          two orders as one, compared part by part
 // `whole_kind`    the kind that has a text, all of it
 // `stop`, `put`   for those who implement `WrittenOrder`: where a text ends, and a text into memory
+#![tactic(auto)]
+
 pub mod order;
 pub mod pair;
 pub mod texts;

@@ -18,8 +18,8 @@ pub trait Order {
 
 // The common kind. The rules fix it: whatever answer meets them is this one.
 pub fn common_kind<O: Order>(order: &O, a: O::Kind, b: O::Kind) -> Option<O::Kind>
-    ensures answer { IsCommon (meaning order.now).under a b result }
-    ensures fixed { (o : Option O.Kind) → IsCommon (meaning order.now).under a b o → o ≡ result }
+    ensures answer { IsCommon (O.meaning order.now).under a b result }
+    ensures fixed { (o : Option O.Kind) → IsCommon (O.meaning order.now).under a b o → o ≡ result }
 {
     order.common(a, b)
 }

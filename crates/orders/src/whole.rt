@@ -7,7 +7,7 @@ use crate::texts::WrittenOrder;
 
 // The kind that has this text, all of it; or none where no kind has it.
 pub fn whole_kind<O: WrittenOrder>(order: &O, text: &[u8]) -> Option<O::Kind>
-    ensures { KindOf (texts order.now) text.now result }
+    ensures { KindOf (O.texts order.now) text.now result }
 {
     all_taken(order.read(text), text.len())
 }

@@ -1,5 +1,7 @@
 // The ten reasons to refuse. Every call of the matcher that refuses answers one of them.
 // `specs/Table.antt` has the table: the number of each and the values that it returns.
+#![tactic(auto)]
+
 ghost use Rattle.std.specs.Prelude.{◌≡◌, Some};
 ghost use Rattle.refusals.specs.Table.{row, printed};
 

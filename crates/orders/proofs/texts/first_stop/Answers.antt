@@ -5,17 +5,17 @@ use Rattle.orders.specs.Texts.{stops}
 use Rattle.orders.proofs.Parts.{stops-here, stops_past}
 use Rattle.orders.proofs.texts.first_stop.Goals as goal
 
-pub returns-then-is-stop : goal.returns-then-is-stop
-returns-then-is-stop c =
+pub returns-then-is_stop : goal.returns-then-is_stop
+returns-then-is_stop c =
     record {
       within = search rules;
       before = c.loop-i.invariant;
-      after = stops-here _ _ c.loop-i-test.true (sym c.if-is-stop.ensures);
+      after = stops-here _ _ c.loop-i-test.true (sym c.if-is_stop.ensures);
     }
 
 pub loop-i-preserved : goal.loop-i-preserved
 loop-i-preserved c =
-    All-more (λ b. stops b ≡ false) c.args.bytes.now c.loop-i.i 0 c.loop-i-test.true c.loop-i.invariant (sym c.if-is-stop.ensures)
+    All-more (λ b. stops b ≡ false) c.args.bytes.now c.loop-i.i 0 c.loop-i-test.true c.loop-i.invariant (sym c.if-is_stop.ensures)
 
 pub returns : goal.returns
 returns c =
