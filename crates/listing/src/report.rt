@@ -19,7 +19,7 @@ pub fn report<K: Copy, O: WrittenOrder<Kind = K>>(
     term: &mut Term<K>,
     heap: Global,
 ) -> Result<Vec<u8>, AllocError>
-    ensures { Reports (texts order.now) (feature_names features.now) line.now term.old term.new vec_items result }
+    ensures { Reports (O.texts order.now) (feature_names features.now) line.now term.old term.new vec_items result }
 {
     match term.read(order, features, line) {
         Ok(()) => said_text(order, features, term, heap),

@@ -33,7 +33,7 @@ fn put_variable(variable: usize, text: &mut Vec<u8>, heap: Global) -> Result<(),
 
 // Adds the kind's text, or a question mark where it has none or a longer one.
 fn put_kind<O: WrittenOrder>(order: &O, kind: O::Kind, text: &mut Vec<u8>) -> Result<(), AllocError>
-    ensures { OnOk result (text.new.items ≡ text.old.items ++ kind_shown ((texts order.now).text kind)) }
+    ensures { OnOk result (text.new.items ≡ text.old.items ++ kind_shown ((O.texts order.now).text kind)) }
 {
     let mut memory = [0; LONGEST_KIND];
     let count = order.write(kind, &mut memory);
@@ -60,7 +60,7 @@ fn put_statement<O: WrittenOrder>(
     text: &mut Vec<u8>,
     heap: Global,
 ) -> Result<(), AllocError>
-    ensures { OnOk result (text.new.items ≡ text.old.items ++ statement_shown (texts order.now) (feature_names features.now) statement) }
+    ensures { OnOk result (text.new.items ≡ text.old.items ++ statement_shown (O.texts order.now) (feature_names features.now) statement) }
 {
     match statement {
         Statement::Kind { variable, kind } => {
@@ -92,7 +92,7 @@ fn put_row<O: WrittenOrder>(
     text: &mut Vec<u8>,
     heap: Global,
 ) -> Result<(), AllocError>
-    ensures { OnOk result (text.new.items ≡ text.old.items ++ row_shown (texts order.now) (feature_names features.now) number statement) }
+    ensures { OnOk result (text.new.items ≡ text.old.items ++ row_shown (O.texts order.now) (feature_names features.now) number statement) }
 {
     put_number(number as u128, text, heap)?;
     text.extend_from_slice(b" ")?;
@@ -108,7 +108,7 @@ fn put_later<O: WrittenOrder>(
     text: &mut Vec<u8>,
     heap: Global,
 ) -> Result<(), AllocError>
-    ensures { OnOk result (text.new.items ≡ text.old.items ++ later_shown (texts order.now) (feature_names features.now) 2 (drop 1 (statements-of (said_of term.now)))) }
+    ensures { OnOk result (text.new.items ≡ text.old.items ++ later_shown (O.texts order.now) (feature_names features.now) 2 (drop 1 (statements-of (said_of term.now)))) }
 {
     for i in 1..term.statements() {
         let statement = term.statement(i + 1).unwrap();
@@ -125,7 +125,7 @@ fn put_rows<O: WrittenOrder>(
     text: &mut Vec<u8>,
     heap: Global,
 ) -> Result<(), AllocError>
-    ensures { OnOk result (text.new.items ≡ text.old.items ++ said_shown (texts order.now) (feature_names features.now) (statements-of (said_of term.now))) }
+    ensures { OnOk result (text.new.items ≡ text.old.items ++ said_shown (O.texts order.now) (feature_names features.now) (statements-of (said_of term.now))) }
 {
     match term.statement(1) {
         Some(first) => {
@@ -144,7 +144,7 @@ pub fn said_text<O: WrittenOrder>(
     term: &Term<O::Kind>,
     heap: Global,
 ) -> Result<Vec<u8>, AllocError>
-    ensures { IfOk result (λ v. v.items ≡ said_shown (texts order.now) (feature_names features.now) (statements-of (said_of term.now))) }
+    ensures { IfOk result (λ v. v.items ≡ said_shown (O.texts order.now) (feature_names features.now) (statements-of (said_of term.now))) }
 {
     let mut text = Vec::new(heap);
     put_rows(order, features, term, &mut text, heap)?;

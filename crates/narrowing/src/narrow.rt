@@ -21,16 +21,16 @@ pub struct Narrowed<K> {
 // Reads the two kinds of a line, its texts with a blank between them, and finds their common kind.
 // The rules fix the answer: whatever meets them is this one.
 pub fn narrow<O: WrittenOrder>(order: &O, line: &[u8]) -> Result<Narrowed<O::Kind>, Refusal>
-    ensures answer { Narrows (O.Order.meaning order.now) (texts order.now) line.now result }
-    ensures fixed { (s : Result (Narrowed O.Kind) Refusal) → Narrows (O.Order.meaning order.now) (texts order.now) line.now s → s ≡ result }
+    ensures answer { Narrows (O.Order.meaning order.now) (O.texts order.now) line.now result }
+    ensures fixed { (s : Result (Narrowed O.Kind) Refusal) → Narrows (O.Order.meaning order.now) (O.texts order.now) line.now s → s ≡ result }
 {
     narrow_line(order, line)
 }
 
 // The two texts of the line in turn, and then what their kinds have in common.
 fn narrow_line<O: WrittenOrder>(order: &O, line: &[u8]) -> Result<Narrowed<O::Kind>, Refusal>
-    ensures answer { Narrows (O.Order.meaning order.now) (texts order.now) line.now result }
-    ensures fixed { (s : Result (Narrowed O.Kind) Refusal) → Narrows (O.Order.meaning order.now) (texts order.now) line.now s → s ≡ result }
+    ensures answer { Narrows (O.Order.meaning order.now) (O.texts order.now) line.now result }
+    ensures fixed { (s : Result (Narrowed O.Kind) Refusal) → Narrows (O.Order.meaning order.now) (O.texts order.now) line.now s → s ≡ result }
 {
     let blank = split(line)?;
     let first = kind_at(order, line, 0, blank)?;
@@ -46,7 +46,7 @@ fn kind_at<O: WrittenOrder>(
     end: usize,
 ) -> Result<O::Kind, Refusal>
     requires { (start ≤ end) × (end ≤ length line.now) }
-    ensures { ReadsAt (texts order.now) (between start end line.now) start result }
+    ensures { ReadsAt (O.texts order.now) (between start end line.now) start result }
 {
     match whole(order, &line[start..end]) {
         Some(kind) => Ok(kind),
@@ -56,7 +56,7 @@ fn kind_at<O: WrittenOrder>(
 
 // The kind that has this text, all of it.
 fn whole<O: WrittenOrder>(order: &O, text: &[u8]) -> Option<O::Kind>
-    ensures { Reads (texts order.now) text.now result }
+    ensures { Reads (O.texts order.now) text.now result }
 {
     all_taken(order.read(text), text.len())
 }
@@ -71,7 +71,7 @@ fn all_taken<K: Copy>(read: Option<(K, usize)>, bytes: usize) -> Option<K>
 
 // Two kinds with what they have in common.
 fn with_common<O: Order>(order: &O, first: O::Kind, second: O::Kind) -> Narrowed<O::Kind>
-    ensures { result ≡ record { first = first; second = second; common = (meaning order.now).common first second } }
+    ensures { result ≡ record { first = first; second = second; common = (O.meaning order.now).common first second } }
 {
     Narrowed {
         first,

@@ -15,7 +15,7 @@ const LONGEST_KIND: usize = 256;
 
 // The two kinds of a line and their common kind, or why the line is refused, as a line of text.
 pub fn report<O: WrittenOrder>(order: &O, line: &[u8], heap: Global) -> Result<Vec<u8>, AllocError>
-    ensures { IfOk result (λ v. (n : Result (Narrowed O.Kind) Refusal) × Narrows (O.Order.meaning order.now) (texts order.now) line.now n × (v.items ≡ shown (texts order.now) n)) }
+    ensures { IfOk result (λ v. (n : Result (Narrowed O.Kind) Refusal) × Narrows (O.Order.meaning order.now) (O.texts order.now) line.now n × (v.items ≡ shown (O.texts order.now) n)) }
 {
     match narrow(order, line) {
         Ok(narrowed) => narrowed_text(order, narrowed, heap),
@@ -35,7 +35,7 @@ fn narrowed_text<O: WrittenOrder>(
     narrowed: Narrowed<O::Kind>,
     heap: Global,
 ) -> Result<Vec<u8>, AllocError>
-    ensures { IfOk result (λ v. v.items ≡ narrowed_shown (texts order.now) narrowed) }
+    ensures { IfOk result (λ v. v.items ≡ narrowed_shown (O.texts order.now) narrowed) }
 {
     let mut text = Vec::new(heap);
     put_kind(order, narrowed.first, &mut text)?;
@@ -51,7 +51,7 @@ fn put_common<O: WrittenOrder>(
     common: Option<O::Kind>,
     text: &mut Vec<u8>,
 ) -> Result<(), AllocError>
-    ensures { OnOk result (text.new.items ≡ text.old.items ++ common_shown (texts order.now) common) }
+    ensures { OnOk result (text.new.items ≡ text.old.items ++ common_shown (O.texts order.now) common) }
 {
     match common {
         Some(kind) => put_kind(order, kind, text)?,
@@ -62,7 +62,7 @@ fn put_common<O: WrittenOrder>(
 
 // Adds the kind's text, or a question mark where it has none or a longer one.
 fn put_kind<O: WrittenOrder>(order: &O, kind: O::Kind, text: &mut Vec<u8>) -> Result<(), AllocError>
-    ensures { OnOk result (text.new.items ≡ text.old.items ++ kind_shown ((texts order.now).text kind)) }
+    ensures { OnOk result (text.new.items ≡ text.old.items ++ kind_shown ((O.texts order.now).text kind)) }
 {
     let mut memory = [0; LONGEST_KIND];
     let count = order.write(kind, &mut memory);

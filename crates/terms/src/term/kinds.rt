@@ -26,7 +26,7 @@ fn with_kind<O: WrittenOrder>(
     line: &[u8],
     statement: Statement<Span>,
 ) -> Option<Statement<O::Kind>>
-    ensures { StatementOf (texts order.now) (statement_in line.now statement) result }
+    ensures { StatementOf (O.texts order.now) (statement_in line.now statement) result }
 {
     match statement {
         Statement::Kind { variable, kind } => {
@@ -47,7 +47,7 @@ fn with_kind<O: WrittenOrder>(
 
 // The place of the first kind text that no kind has.
 fn first_wrong<O: WrittenOrder>(order: &O, line: &[u8], notes: &Notes) -> Option<usize>
-    ensures first { FirstWrong (texts order.now) (noted line.now notes.now).said result }
+    ensures first { FirstWrong (O.texts order.now) (noted line.now notes.now).said result }
     ensures count { length (noted line.now notes.now).said ≡ notes.now.count }
 {
     for i in 0..notes.count {
@@ -103,9 +103,9 @@ fn fill<O: WrittenOrder>(
     rows: &mut Vec<Said<O::Kind>>,
     depths: &mut Vec<usize>,
 )
-    requires kinds { Readable (texts order.now) (noted line.now notes.now).said }
+    requires kinds { Readable (O.texts order.now) (noted line.now notes.now).said }
     requires room { (notes.now.count ≤ vec_capacity rows.old) × (notes.now.count + 1 ≤ vec_capacity depths.old) }
-    ensures read { OnlyReads (texts order.now) (noted line.now notes.now).said rows.new.items }
+    ensures read { OnlyReads (O.texts order.now) (noted line.now notes.now).said rows.new.items }
     ensures deep { depths.new.items ≡ depths-of (statements-of rows.new.items) }
     ensures capacity { (vec_capacity rows.new ≡ vec_capacity rows.old) × (vec_capacity depths.new ≡ vec_capacity depths.old) }
 {
@@ -135,8 +135,8 @@ fn finish<K: Copy, O: WrittenOrder<Kind = K>>(
     notes: &Notes,
 ) -> Result<(), Refusal>
     requires { (F : List (List ℕ)) × Found F features line.now notes.now }
-    ensures answer { (F : List (List ℕ)) → Found F features line.now notes.now → Answers (texts order.now) F (room_of term.old) line.now (said_of term.new) result }
-    ensures fixed { (F : List (List ℕ)) → Found F features line.now notes.now → (s : Answered (Unit {0}) Refused) (vs : List (Row K)) → Answers (texts order.now) F (room_of term.old) line.now vs s → (s ≡ result) × (is_ok result ≡ true → vs ≡ said_of term.new) }
+    ensures answer { (F : List (List ℕ)) → Found F features line.now notes.now → Answers (O.texts order.now) F (room_of term.old) line.now (said_of term.new) result }
+    ensures fixed { (F : List (List ℕ)) → Found F features line.now notes.now → (s : Answered (Unit {0}) Refused) (vs : List (Row K)) → Answers (O.texts order.now) F (room_of term.old) line.now vs s → (s ≡ result) × (is_ok result ≡ true → vs ≡ said_of term.new) }
     ensures kept { is_err result ≡ true → term.new ≡ term.old }
     ensures few { is_ok result ≡ true → (length (said_of term.new) ≤ 399) × (length (depths_in term.new) ≤ 200) }
     ensures fields { (room_of term.new ≡ room_of term.old) × (is_ok result ≡ true → features_of term.new ≡ features) }
@@ -159,9 +159,9 @@ fn read_line<K: Copy, O: WrittenOrder<Kind = K>>(
     features: &Features,
     line: &[u8],
 ) -> Result<(), Refusal>
-    ensures answer { Answers (texts order.now) (feature_names features.now) (room_of term.old) line.now (said_of term.new) result }
+    ensures answer { Answers (O.texts order.now) (feature_names features.now) (room_of term.old) line.now (said_of term.new) result }
     ensures kept { is_err result ≡ true → term.new ≡ term.old }
-    ensures fixed { (s : Answered (Unit {0}) Refused) (vs : List (Row K)) → Answers (texts order.now) (feature_names features.now) (room_of term.old) line.now vs s → (s ≡ result) × (is_ok result ≡ true → vs ≡ said_of term.new) }
+    ensures fixed { (s : Answered (Unit {0}) Refused) (vs : List (Row K)) → Answers (O.texts order.now) (feature_names features.now) (room_of term.old) line.now vs s → (s ≡ result) × (is_ok result ≡ true → vs ≡ said_of term.new) }
     ensures few { is_ok result ≡ true → (length (said_of term.new) ≤ 399) × (length (depths_in term.new) ≤ 200) }
     ensures fields { (room_of term.new ≡ room_of term.old) × (is_ok result ≡ true → features_of term.new ≡ length (feature_names features.now)) }
 {
@@ -180,9 +180,9 @@ impl<K: Copy> Term<K> {
         features: &Features,
         line: &[u8],
     ) -> Result<(), Refusal>
-        ensures answer { Answers (texts order.now) (feature_names features.now) (room_of self.old) line.now (said_of self.new) result }
+        ensures answer { Answers (O.texts order.now) (feature_names features.now) (room_of self.old) line.now (said_of self.new) result }
         ensures kept { is_err result ≡ true → self.new ≡ self.old }
-        ensures fixed { (s : Answered (Unit {0}) Refused) (vs : List (Row K)) → Answers (texts order.now) (feature_names features.now) (room_of self.old) line.now vs s → (s ≡ result) × (is_ok result ≡ true → vs ≡ said_of self.new) }
+        ensures fixed { (s : Answered (Unit {0}) Refused) (vs : List (Row K)) → Answers (O.texts order.now) (feature_names features.now) (room_of self.old) line.now vs s → (s ≡ result) × (is_ok result ≡ true → vs ≡ said_of self.new) }
         ensures few { is_ok result ≡ true → (length (said_of self.new) ≤ 399) × (length (depths_in self.new) ≤ 200) }
         ensures fields { (room_of self.new ≡ room_of self.old) × (is_ok result ≡ true → features_of self.new ≡ length (feature_names features.now)) }
     {
