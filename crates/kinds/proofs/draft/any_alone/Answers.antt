@@ -3,9 +3,9 @@ use Rattle.declarations.specs.Declarations.{follow_on}
 use Rattle.declarations.specs.Rows.{add_rows, mask_of, bit}
 use Rattle.kinds.proofs.draft.any_alone.Goals as goal
 
-pub invariant-of-result : goal.invariant-of-result
+pub invariant_of-result : goal.invariant_of-result
 unfolding follow_on add_rows mask_of bit
-invariant-of-result c = (omega arith, (refl, (refl, tt)))
+invariant_of-result c = record { few = omega arith; sound = refl; right = refl }
 
 pub returns : goal.returns
 returns c = refl

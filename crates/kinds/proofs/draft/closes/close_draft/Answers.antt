@@ -13,5 +13,5 @@ returns-in-Some c =
 
 pub returns : goal.returns
 returns c =
-    let none = c.in-default.ensures.1 in
+    let none = c.in_default.ensures.1 in
     record { answer = (refl, none); fixed = λ s after h. only_accepted (drafted c.args.draft) c.args.list.now after none s h }

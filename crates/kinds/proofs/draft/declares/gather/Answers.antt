@@ -9,8 +9,8 @@ use Rattle.kinds.proofs.draft.declares.gather.Goals as goal
 pub loop-end-init : goal.loop-end-init
 loop-end-init c = λ ws a e. starts (kinds_of c.args.table.now) c.args.at ws c.args.line.now a e
 
-pub overflow-shl-wider : goal.overflow-shl-wider
-overflow-shl-wider c = let s = c.args.table.now in omega (arith, c.in-Some.ensures.0, length-stored s.names s.wider s.count, s.few)
+pub overflow_shl-wider : goal.overflow_shl-wider
+overflow_shl-wider c = let s = c.args.table.now in omega (arith, c.in-Some.ensures.0, length-stored s.names s.wider s.count, s.few)
 
 pub loop-end-preserved : goal.loop-end-preserved
 loop-end-preserved c =
@@ -20,10 +20,10 @@ loop-end-preserved c =
     let line = c.args.line.now in
     let p = c.loop-end.invariant ws a e in
     let n = next_word ds c.args.at ws line c.loop-end.end c.loop-end.wider p c.loop-end-test.true in
-    let stop = word-ends line (c.loop-end.end + 1) n.word n.others n.named n.rest c.word-end-end.result c.word-end-end.ensures in
-    let word = word_is ds c.args.at ws line c.loop-end.end c.loop-end.wider p n c.word-end-end.result stop in
+    let stop = word-ends line (c.loop-end.end + 1) n.word n.others n.named n.rest c.word_end-end.result c.word_end-end.ensures in
+    let word = word_is ds c.args.at ws line c.loop-end.end c.loop-end.wider p n c.word_end-end.result stop in
     let few : length ds ≤ 64 = omega (arith, length-stored s.names s.wider s.count, s.few) in
-    advances ds c.args.at ws line c.loop-end.end c.loop-end.wider p n s.sound few c.word-end-end.result c.in-Some.kind stop
+    advances ds c.args.at ws line c.loop-end.end c.loop-end.wider p n s.sound few c.word_end-end.result c.in-Some.kind stop
     c.in-Some.ensures.0 (c.in-Some.ensures.1 ∙ word)
 
 pub returns-in-None : goal.returns-in-None
@@ -33,8 +33,8 @@ returns-in-None c =
     let line = c.args.line.now in
     let p = c.loop-end.invariant ws a e in
     let n = next_word ds c.args.at ws line c.loop-end.end c.loop-end.wider p c.loop-end-test.true in
-    let stop = word-ends line (c.loop-end.end + 1) n.word n.others n.named n.rest c.word-end-end.result c.word-end-end.ensures in
-    let word = word_is ds c.args.at ws line c.loop-end.end c.loop-end.wider p n c.word-end-end.result stop in
+    let stop = word-ends line (c.loop-end.end + 1) n.word n.others n.named n.rest c.word_end-end.result c.word_end-end.ensures in
+    let word = word_is ds c.args.at ws line c.loop-end.end c.loop-end.wider p n c.word_end-end.result stop in
     (_, first-unknown ds c.args.at ws line c.loop-end.end c.loop-end.wider p n (subst (Unknown ds) word c.in-None.ensures), refl)
 
 pub returns : goal.returns

@@ -5,13 +5,13 @@ use Rattle.declarations.specs.Names.{all_name, listed}
 use Rattle.declarations.specs.Rows.{add_rows, mask_of, bit, meets_all, closed_to}
 use Rattle.kinds.proofs.list.shipped.constant.Goals as goal
 
-pub invariant-of-result-65 : goal.invariant-of-result-65
+pub invariant_of-result-65 : goal.invariant_of-result-65
 unfolding follow_on all_below all_name listed add_rows mask_of bit
-invariant-of-result-65 c = (omega arith, (refl, (refl, tt)))
+invariant_of-result-65 c = record { few = omega arith; sound = refl; right = refl }
 
-pub invariant-of-result-66 : goal.invariant-of-result-66
+pub invariant_of-result-66 : goal.invariant_of-result-66
 unfolding meets_all closed_to count_trailing_zeros
-invariant-of-result-66 c = (refl, tt)
+invariant_of-result-66 c = record { closed = refl }
 
 pub returns : goal.returns
 unfolding bit

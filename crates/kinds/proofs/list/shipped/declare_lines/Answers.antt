@@ -4,9 +4,9 @@ use Rattle.kinds.specs.Shipped.{shipped}
 use Rattle.kinds.proofs.Ships.{declared, not_err, closes}
 use Rattle.kinds.proofs.list.shipped.declare_lines.Goals as goal
 
-pub returns-in-err-declare : goal.returns-in-err-declare
-returns-in-err-declare c =
-    absurd (not_err c.loop-i.i c.loop-i-test.true (drafted c.loop-i.draft) _ c.loop-i.invariant c.line.ensures _ c.declare.result _ c.declare.ensures.answer c.in-err-declare.was)
+pub returns-in_err-declare : goal.returns-in_err-declare
+returns-in_err-declare c =
+    absurd (not_err c.loop-i.i c.loop-i-test.true (drafted c.loop-i.draft) _ c.loop-i.invariant c.line.ensures _ c.declare.result _ c.declare.ensures.answer c.in_err-declare.was)
 
 pub loop-i-preserved : goal.loop-i-preserved
 loop-i-preserved c =

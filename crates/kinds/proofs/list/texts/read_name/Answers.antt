@@ -8,14 +8,14 @@ use Rattle.kinds.specs.Lists.{listing, list_texts}
 use Rattle.kinds.specs.Model.{Finds}
 use Rattle.kinds.proofs.list.texts.read_name.Goals as goal
 
-pub returns-in-err-kind : goal.returns-in-err-kind
-returns-in-err-kind c =
+pub returns-in_err-kind : goal.returns-in_err-kind
+returns-in_err-kind c =
     let list = c.args.list.now in
     let bytes = c.args.bytes.now in
     let end = c.stop-end.result in
     let s = c.stop-end.ensures in
-    let f : Finds (listing list) (take end bytes) None = rw sub-zero at c.in-err-kind.ensures in
-    rw c.from-residual.ensures
+    let f : Finds (listing list) (take end bytes) None = rw sub-zero at c.in_err-kind.ensures in
+    rw c.from_residual.ensures
     (record { read_back = none_back (list_texts list) (single (listing list) list.table.sound) bytes end s (reads_none (listing list) list.table.sound (take end bytes) f); taken = tt })
 
 pub returns : goal.returns
@@ -23,9 +23,9 @@ returns c =
     let list = c.args.list.now in
     let bytes = c.args.bytes.now in
     let end = c.stop-end.result in
-    let kind = c.in-ok-kind.kind in
+    let kind = c.in_ok-kind.kind in
     let s = c.stop-end.ensures in
-    let f : Finds (listing list) (take end bytes) (Some kind) = rw sub-zero at c.in-ok-kind.ensures in
+    let f : Finds (listing list) (take end bytes) (Some kind) = rw sub-zero at c.in_ok-kind.ensures in
     let r = reads_name (listing list) list.table.sound kind (take end bytes) f.0 f.1 in
     record {
       read_back = some_back (list_texts list) (single (listing list) list.table.sound) bytes end s kind r;

@@ -20,6 +20,6 @@ returns c =
     let k = c.args.kind in
     let here : k < length ds = omega (arith, length-stored t.names t.wider t.count) in
     let l : t.count ≤ length t.names = search rules in
-    let text : name_text ds k ≡ Some c.as-slice.result.now =
-    text-here ds k here ∙ ap Some (name-stored t.names t.wider t.count k _ c.if-kind-list.false l ∙ sym c.as-slice.ensures) in
+    let text : name_text ds k ≡ Some c.as_slice.result.now =
+    text-here ds k here ∙ ap Some (name-stored t.names t.wider t.count k _ c.if-kind-list.false l ∙ sym c.as_slice.ensures) in
     subst (λ o. Writes o c.args.memory.now c.put.new.memory c.put.result) (sym text) c.put.ensures
