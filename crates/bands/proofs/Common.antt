@@ -1,25 +1,39 @@
 -- The common kind, case by case, and what `==` on kinds tells.
-use mathlib.Core.Path.{◌≡◌, refl, ap, ◌∙◌}
-use mathlib.Core.Bool.{true, false, cond, ◌&&◌, ◌||◌}
-use mathlib.Core.Logic.{inl, inr}
+use Rattle.std.proofs.Common.{◌≡◌, Bool, true, false, cond, refl, ◌&&◌, ◌||◌, Some, None, sym, ap, ◌∙◌, inl, inr, Decides, int_eq}
 use Rattle.std.proofs.lemmas.Bool.{false≢true, cases_Bool, or_from, cond-true, cond-false}
-use Rattle.std.specs.Bool.{Decides}
-use Rattle.std.specs.declared.option.Option.TheVariants.{Some, None}
+use Rattle.std.proofs.lemmas.Bool.Decides.{Decides-and, Decides-int_eq}
 use Rattle.bands.specs.declared.band.Band.{Band}
 use Rattle.bands.specs.Bands.{widest, is_band, same, meet, common}
 use Rattle.bands.specs.Rules.{same_ends, same_true, same_itself}
 
-pub alike : (a b : Band) → Decides true (a.low ≡ b.low) × Decides true (a.high ≡ b.high) → same a b ≡ true
-alike a b h = same_itself a b (same_ends a b (h.0.0 refl) (h.1.0 refl))
+or_true : (x : Bool) → (x || true) ≡ true
+or_true true = refl
+or_true false = refl
 
-pub unlike : (a b : Band) → ((Decides false (a.low ≡ b.low) → ⊥) → (Decides false (a.high ≡ b.high) → ⊥) → ⊥) → same a b ≡ false
+-- `==` on kinds compares their ends
+equal_ends : (a b : Band) → Decides (int_eq a.low b.low && int_eq a.high b.high) ((a.low ≡ b.low) × (a.high ≡ b.high))
+equal_ends a b = Decides-and _ _ (Decides-int_eq a.low b.low) (Decides-int_eq a.high b.high)
+
+pub alike : (a b : Band) → true ≡ (int_eq a.low b.low && int_eq a.high b.high) → same a b ≡ true
+alike a b h = let (low, high) = (equal_ends a b).0 (sym h) in same_itself a b (same_ends a b low high)
+
+pub unlike : (a b : Band) → false ≡ (int_eq a.low b.low && int_eq a.high b.high) → same a b ≡ false
 unlike a b h =
     elim (cases_Bool (same a b)) [
       | inl t ↦
           let e = same_true a b t in
-          absurd (h (λ d. false≢true (d.1 (ap (λ (k : Band). k.low) e))) (λ d. false≢true (d.1 (ap (λ (k : Band). k.high) e))))
+          absurd (false≢true (h ∙ (equal_ends a b).1 (ap (λ (k : Band). k.low) e, ap (λ (k : Band). k.high) e)))
       | inr f ↦ f
     ]
+
+common-left : (a b : Band) → (same a b || same b widest) ≡ true → common a b ≡ Some a
+common-left a b h = cond-true (same a b || same b widest) _ _ h
+
+pub common-same : (a b : Band) → same a b ≡ true → common a b ≡ Some a
+common-same a b h = common-left a b (ap (λ x. x || same b widest) h)
+
+pub common-widest : (a b : Band) → same b widest ≡ true → common a b ≡ Some a
+common-widest a b h = common-left a b (ap (λ x. same a b || x) h ∙ or_true (same a b))
 
 -- neither is the other, and b is not the widest
 pub record Apart (a b : Band) : Type 0 where

@@ -4,14 +4,14 @@ use Rattle.std.proofs.lemmas.List.{take_all}
 use Rattle.bands.proofs.Numerals.{value_next, value_small, digit_at}
 use Rattle.bands.proofs.reading.number.Goals as goal
 
-pub overflow-mul-n : goal.overflow-mul-n
-overflow-mul-n c = omega (arith, c.loop-digit.invariant, value_small c.args.digits.now c.loop-digit.digit-index c.loop-digit-test.true c.requires.short c.requires.digits)
+pub overflow_mul-n : goal.overflow_mul-n
+overflow_mul-n c = omega (arith, c.loop-digit.invariant, value_small c.args.digits.now c.loop-digit.digit-index c.loop-digit-test.true c.requires.short c.requires.digits)
 
-pub overflow-sub-digit : goal.overflow-sub-digit
-overflow-sub-digit c = omega (arith, digit_at c.args.digits.now c.loop-digit.digit-index c.loop-digit-test.true c.requires.digits)
+pub overflow_sub-digit : goal.overflow_sub-digit
+overflow_sub-digit c = omega (arith, digit_at c.args.digits.now c.loop-digit.digit-index c.loop-digit-test.true c.requires.digits)
 
-pub overflow-add-n : goal.overflow-add-n
-overflow-add-n c =
+pub overflow_add-n : goal.overflow_add-n
+overflow_add-n c =
     let i = c.loop-digit.digit-index in
     let small = value_small c.args.digits.now i c.loop-digit-test.true c.requires.short c.requires.digits in
     let digit = digit_at c.args.digits.now i c.loop-digit-test.true c.requires.digits in

@@ -4,6 +4,6 @@ use Rattle.bands.proofs.spelling.put_band.Goals as goal
 
 pub returns : goal.returns
 returns c =
-    writes_text c.args.band c.as-bytes.result.now c.args.memory.now c.put.new.memory c.put.result c.requires
-    (c.as-bytes.ensures ∙ c.of-band-text.ensures.text)
+    writes_text c.args.band c.as_bytes.result.now c.args.memory.now c.put.new.memory c.put.result c.requires
+    (c.as_bytes.ensures ∙ c.of_band-text.ensures.text)
     c.put.ensures

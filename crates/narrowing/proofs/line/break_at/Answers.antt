@@ -18,7 +18,7 @@ pub returns-in-Second : goal.returns-in-Second
 returns-in-Second c =
     runs-lawful c.args.line.now (runs-all c.args.line.now c.loop-i.i c.loop-i.part c.loop-i-test.false c.loop-i.invariant ∙ ap Some c.in-Second.is)
 
-pub returns-in-default : goal.returns-in-default
-returns-in-default c =
+pub returns-in_default : goal.returns-in_default
+returns-in_default c =
     breaks-end c.args.line.now c.loop-i.part
-    (runs-all c.args.line.now c.loop-i.i c.loop-i.part c.loop-i-test.false c.loop-i.invariant) c.in-default.not-Second
+    (runs-all c.args.line.now c.loop-i.i c.loop-i.part c.loop-i-test.false c.loop-i.invariant) c.in_default.not-Second

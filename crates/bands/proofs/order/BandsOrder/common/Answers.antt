@@ -1,9 +1,18 @@
 use Rattle.std.proofs.Common.{◌≡◌, false, ◌&&◌, sym, ◌∙◌}
 use Rattle.std.proofs.lemmas.Bool.{and_from, and_left, and_right}
 use Rattle.bands.specs.Bands.{widest, is_band}
-use Rattle.bands.proofs.Common.{Apart, alike, unlike, common-right, common-meet, common-none}
+use Rattle.bands.proofs.Common.{Apart, alike, unlike, common-same, common-widest, common-right, common-meet, common-none}
 use Rattle.bands.proofs.order.BandsOrder.common.Goals as goal
-use Rattle.bands.proofs.order.BandsOrder.common.Goals.{then-not-is-band-via-then-not-is-band, then-not-is-band-via-else-not-is-band+then-not-is-band-2}
+use Rattle.bands.proofs.order.BandsOrder.common.Goals.{then-eq-via-then-eq, then-eq-via-else-eq+then-eq-2, then-not-is_band-via-then-not-is_band, then-not-is_band-via-else-not-is_band+then-not-is_band-2}
+
+pub returns-then-eq : goal.returns-then-eq
+returns-then-eq c =
+    let a = c.args.a in
+    let b = c.args.b in
+    elim c.then-eq.branch [
+      | then-eq-via-then-eq w ↦ sym (common-same a b (alike a b w.if-eq.ensures))
+      | then-eq-via-else-eq+then-eq-2 w ↦ sym (common-widest a b (alike b widest w.if-eq-2.ensures))
+    ]
 
 pub returns-then-eq-3 : goal.returns-then-eq-3
 returns-then-eq-3 c =
@@ -12,15 +21,15 @@ returns-then-eq-3 c =
     let p : Apart a b = record { differ = unlike a b c.if-eq.ensures; narrow = unlike b widest c.if-eq-2.ensures } in
     sym (common-right a b p (alike a widest c.if-eq-3.ensures))
 
-pub returns-then-not-is-band : goal.returns-then-not-is-band
-returns-then-not-is-band c =
+pub returns-then-not-is_band : goal.returns-then-not-is_band
+returns-then-not-is_band c =
     let a = c.args.a in
     let b = c.args.b in
     let p : Apart a b = record { differ = unlike a b c.if-eq.ensures; narrow = unlike b widest c.if-eq-2.ensures } in
     let n : (is_band a && is_band b) ≡ false =
-    elim c.then-not-is-band.branch [
-      | then-not-is-band-via-then-not-is-band w ↦ and_left _ _ (sym w.if-not-is-band.ensures)
-      | then-not-is-band-via-else-not-is-band+then-not-is-band-2 w ↦ and_right _ _ (sym w.if-not-is-band-2.ensures)
+    elim c.then-not-is_band.branch [
+      | then-not-is_band-via-then-not-is_band w ↦ and_left _ _ (sym w.if-not-is_band.ensures)
+      | then-not-is_band-via-else-not-is_band+then-not-is_band-2 w ↦ and_right _ _ (sym w.if-not-is_band-2.ensures)
     ] in
     sym (common-none a b p (unlike a widest c.if-eq-3.ensures) n)
 
@@ -29,4 +38,4 @@ returns c =
     let a = c.args.a in
     let b = c.args.b in
     let p : Apart a b = record { differ = unlike a b c.if-eq.ensures; narrow = unlike b widest c.if-eq-2.ensures } in
-    c.meet.ensures ∙ sym (common-meet a b p (unlike a widest c.if-eq-3.ensures) (and_from _ _ (sym c.if-not-is-band.ensures) (sym c.if-not-is-band-2.ensures)))
+    c.meet.ensures ∙ sym (common-meet a b p (unlike a widest c.if-eq-3.ensures) (and_from _ _ (sym c.if-not-is_band.ensures) (sym c.if-not-is_band-2.ensures)))
