@@ -21,7 +21,7 @@ returns-then-eq c =
     let line = c.args.line.now in
     let (size, is, before) = c.loop-variable.invariant in
     let same = (slice_eq-Decides Decides-eqb _ _ _ c.eq.ensures).0 c.if-eq.true in
-    let p = found_name line _ s.variables c.args.word.now size (noted line s).names is c.loop-variable.variable _ (omega arith) before (sym c.bytes-of.ensures ∙ same) in
+    let p = found_name line _ s.variables c.args.word.now size (noted line s).names is c.loop-variable.variable _ (omega arith) before (sym c.bytes_of.ensures ∙ same) in
     record { number = p.0; known = p.1 }
 
 pub loop-variable-preserved : goal.loop-variable-preserved
@@ -32,7 +32,7 @@ loop-variable-preserved c =
     let at = name_at line _ s.variables c.args.word.now size (noted line s).names is c.loop-variable.variable _ (omega arith) in (
       size,
       is,
-      below_more _ _ before (λ e. both_ways c.eq.result c.if-eq.false ((slice_eq-Decides Decides-eqb _ _ _ c.eq.ensures).1 (c.bytes-of.ensures ∙ sym at ∙ e))),
+      below_more _ _ before (λ e. both_ways c.eq.result c.if-eq.false ((slice_eq-Decides Decides-eqb _ _ _ c.eq.ensures).1 (c.bytes_of.ensures ∙ sym at ∙ e))),
     )
 
 pub returns : goal.returns

@@ -11,12 +11,12 @@ returns-then-not-known c =
     let line = c.args.line.now in
     let t = noted line s in
     let i = c.find-variable.result in
-    let is = c.find-variable.ensures.number ∙ ap (λ v. index v t.names) c.bytes-of.ensures in
-    let known = c.find-variable.ensures.known ∙ ap (λ v. listed v t.names) c.bytes-of.ensures in
+    let is = c.find-variable.ensures.number ∙ ap (λ v. index v t.names) c.bytes_of.ensures in
+    let known = c.find-variable.ensures.known ∙ ap (λ v. listed v t.names) c.bytes_of.ensures in
     record {
       answer = (is, known);
-      told = c.push-name.ensures.told line ∙ name_is_new t (part line c.args.name) i s.variables known c.if-not-known.true;
-      counts = (omega arith, c.push-name.ensures.counts.1);
+      told = c.push_name.ensures.told line ∙ name_is_new t (part line c.args.name) i s.variables known c.if-not-known.true;
+      counts = (omega arith, c.push_name.ensures.counts.1);
     }
 
 pub returns-else-not-known : goal.returns-else-not-known
@@ -25,8 +25,8 @@ returns-else-not-known c =
     let line = c.args.line.now in
     let t = noted line s in
     let i = c.find-variable.result in
-    let is = c.find-variable.ensures.number ∙ ap (λ v. index v t.names) c.bytes-of.ensures in
-    let known = c.find-variable.ensures.known ∙ ap (λ v. listed v t.names) c.bytes-of.ensures in
+    let is = c.find-variable.ensures.number ∙ ap (λ v. index v t.names) c.bytes_of.ensures in
+    let known = c.find-variable.ensures.known ∙ ap (λ v. listed v t.names) c.bytes_of.ensures in
     record {
       answer = (is, known);
       told = name_is_old t (part line c.args.name) i s.variables known c.if-not-known.false;

@@ -8,6 +8,6 @@ returns-in-Comma c = λ d g. next_item c.args.self.now.line.now c.args.at d g (s
 pub returns-in-Close : goal.returns-in-Close
 returns-in-Close c = λ d g. list_end c.args.self.now.line.now c.args.at d g (sym c.mark.ensures ∙ c.in-Close.is)
 
-pub returns-in-default : goal.returns-in-default
-returns-in-default c =
-    λ d g. no_item c.args.self.now.line.now c.args.at d g c.requires (λ e. c.in-default.not-Comma (c.mark.ensures ∙ e)) (λ e. c.in-default.not-Close (c.mark.ensures ∙ e))
+pub returns-in_default : goal.returns-in_default
+returns-in_default c =
+    λ d g. no_item c.args.self.now.line.now c.args.at d g c.requires (λ e. c.in_default.not-Comma (c.mark.ensures ∙ e)) (λ e. c.in_default.not-Close (c.mark.ensures ∙ e))

@@ -19,13 +19,13 @@ told c =
     c.say.ensures.told line ∙ ap (λ x. say (Kind c.args.variable x) c.args.at (noted line c.args.notes.now)) p
 
 some : (c : After-mark) → 0 < length c.word-text.result.text.now
-some c = omega (arith, eqb-false _ 0 (sym c.if-is-empty.ensures))
+some c = omega (arith, eqb-false _ 0 (sym c.if-is_empty.ensures))
 
-pub returns-then-is-empty : goal.returns-then-is-empty
-returns-then-is-empty c =
+pub returns-then-is_empty : goal.returns-then-is_empty
+returns-then-is_empty c =
     let (g, place) = c.word-text.ensures in
     record {
-      answer = λ k. no_text c.args.self.now.line.now c.args.at c.args.depth _ k g c.requires.0 (eqb-true _ 0 (sym c.if-is-empty.ensures));
+      answer = λ k. no_text c.args.self.now.line.now c.args.at c.args.depth _ k g c.requires.0 (eqb-true _ 0 (sym c.if-is_empty.ensures));
       counts = (refl, omega arith);
     }
 
@@ -52,9 +52,9 @@ returns-else-depth-ge-OPEN c =
       counts = (c.say.ensures.counts.0, omega arith);
     }
 
-pub returns-in-default : goal.returns-in-default
-returns-in-default c =
-    let d = (goal.at.returns-in-default c).After-mark in
+pub returns-in_default : goal.returns-in_default
+returns-in_default c =
+    let d = (goal.at.returns-in_default c).After-mark in
     let line = c.args.self.now.line.now in
     let (g, place) = c.word-text.ensures in
     record {
@@ -63,7 +63,7 @@ returns-in-default c =
             _,
             text-lawful line c.args.at c.args.depth _ k g (some d),
             g.spans,
-            no_list line c.args.at c.args.depth _ k g (some d) (λ e. c.in-default.not-Open (c.mark.ensures ∙ e)),
+            no_list line c.args.at c.args.depth _ k g (some d) (λ e. c.in_default.not-Open (c.mark.ensures ∙ e)),
             told d,
           );
       counts = (c.say.ensures.counts.0, omega arith);

@@ -8,43 +8,43 @@ use Rattle.reading.proofs.Marking.{byte_here, byte_none}
 use Rattle.reading.proofs.Spanning.{spans_join}
 use Rattle.reading.proofs.reader.Reader.feature.Goals as goal
 
-pub returns-in-default : goal.returns-in-default
-returns-in-default c =
+pub returns-in_default : goal.returns-in_default
+returns-in_default c =
     let line = c.args.self.now.line.now in
-    λ d at. no_byte line c.args.at d at (byte_none line c.args.at (sym c.byte.ensures ∙ c.in-default.is)) c.requires
+    λ d at. no_byte line c.args.at d at (byte_none line c.args.at (sym c.byte.ensures ∙ c.in_default.is)) c.requires
 
-pub returns-then-not-is-lower : goal.returns-then-not-is-lower
-returns-then-not-is-lower c =
+pub returns-then-not-is_lower : goal.returns-then-not-is_lower
+returns-then-not-is_lower c =
     let line = c.args.self.now.line.now in
     let (l, b) = byte_here line c.args.at _ (sym c.byte.ensures ∙ c.in-Some.is) in
-    λ d at. no_letter line c.args.at d at l (ap letter b ∙ sym c.is-lower.ensures ∙ c.if-not-is-lower.true)
+    λ d at. no_letter line c.args.at d at l (ap letter b ∙ sym c.is_lower.ensures ∙ c.if-not-is_lower.true)
 
-pub returns-in-err-word : goal.returns-in-err-word
-returns-in-err-word c =
+pub returns-in_err-word : goal.returns-in_err-word
+returns-in_err-word c =
     let line = c.args.self.now.line.now in
-    let p = err_from_is_err_and c.from-residual.result c.from-residual.ensures.1 in
+    let p = err_from_is_err_and c.from_residual.result c.from_residual.ensures.1 in
     let (l, b) = byte_here line c.args.at _ (sym c.byte.ensures ∙ c.in-Some.is) in
-    let head = ap letter b ∙ sym c.is-lower.ensures ∙ c.if-not-is-lower.false in
-    let (w, g, long, r) = c.in-err-word.ensures in
+    let head = ap letter b ∙ sym c.is_lower.ensures ∙ c.if-not-is_lower.false in
+    let (w, g, long, r) = c.in_err-word.ensures in
     rw (p.1, p.2) (λ d at. feature_long line c.args.at d at w l head g _ long r)
 
-pub returns-in-err-arrow : goal.returns-in-err-arrow
-returns-in-err-arrow c =
+pub returns-in_err-arrow : goal.returns-in_err-arrow
+returns-in_err-arrow c =
     let line = c.args.self.now.line.now in
-    let p = err_from_is_err_and c.from-residual-in-err-arrow.result c.from-residual-in-err-arrow.ensures.1 in
+    let p = err_from_is_err_and c.from_residual-in_err-arrow.result c.from_residual-in_err-arrow.ensures.1 in
     let (l, b) = byte_here line c.args.at _ (sym c.byte.ensures ∙ c.in-Some.is) in
-    let head = ap letter b ∙ sym c.is-lower.ensures ∙ c.if-not-is-lower.false in
-    let (token, short) = c.in-ok-word.ensures in
+    let head = ap letter b ∙ sym c.is_lower.ensures ∙ c.if-not-is_lower.false in
+    let (token, short) = c.in_ok-word.ensures in
     let (g, place) = token in
-    rw (p.1, p.2) (λ d at. c.in-err-arrow.ensures _ d (feature_here line c.args.at d at _ l head g short) g.stop)
+    rw (p.1, p.2) (λ d at. c.in_err-arrow.ensures _ d (feature_here line c.args.at d at _ l head g short) g.stop)
 
 pub returns : goal.returns
 returns c =
     let line = c.args.self.now.line.now in
     let (l, b) = byte_here line c.args.at _ (sym c.byte.ensures ∙ c.in-Some.is) in
-    let head = ap letter b ∙ sym c.is-lower.ensures ∙ c.if-not-is-lower.false in
-    let (token, short) = c.in-ok-word.ensures in
+    let head = ap letter b ∙ sym c.is_lower.ensures ∙ c.if-not-is_lower.false in
+    let (token, short) = c.in_ok-word.ensures in
     let (g, place) = token in
     λ d at.
-    let (arrow, begins) = c.in-ok-arrow.ensures _ d (feature_here line c.args.at d at _ l head g short) g.stop in
+    let (arrow, begins) = c.in_ok-arrow.ensures _ d (feature_here line c.args.at d at _ l head g short) g.stop in
     (feature_lawful line c.args.at d at _ l head g, le-leb _ 24 short, place, spans_join g.spans arrow, begins)

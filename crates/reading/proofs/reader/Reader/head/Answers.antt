@@ -8,20 +8,20 @@ use Rattle.reading.proofs.Marking.{byte_here, byte_none}
 use Rattle.reading.proofs.Spanning.{spans-none}
 use Rattle.reading.proofs.reader.Reader.head.Goals as goal
 
-pub returns-in-default : goal.returns-in-default
-returns-in-default c =
+pub returns-in_default : goal.returns-in_default
+returns-in_default c =
     let line = c.args.self.now.line.now in
     record {
-      answer = λ d at. no_term line c.args.at d at c.requires.0 (byte_none line c.args.at (sym c.byte.ensures ∙ c.in-default.is));
+      answer = λ d at. no_term line c.args.at d at c.requires.0 (byte_none line c.args.at (sym c.byte.ensures ∙ c.in_default.is));
       counts = (omega arith, omega arith);
     }
 
-pub returns-then-not-is-text-byte : goal.returns-then-not-is-text-byte
-returns-then-not-is-text-byte c =
+pub returns-then-not-is_text_byte : goal.returns-then-not-is_text_byte
+returns-then-not-is_text_byte c =
     let line = c.args.self.now.line.now in
     let (l, b) = byte_here line c.args.at _ (sym c.byte.ensures ∙ c.in-Some.is) in
     record {
       answer =
-          λ d at. no_front line c.args.at d at l (ap capital b ∙ sym c.is-capital.ensures ∙ c.if-is-capital.false) (ap text_byte b ∙ sym c.is-text-byte.ensures ∙ c.if-not-is-text-byte.true);
+          λ d at. no_front line c.args.at d at l (ap capital b ∙ sym c.is_capital.ensures ∙ c.if-is_capital.false) (ap text_byte b ∙ sym c.is_text_byte.ensures ∙ c.if-not-is_text_byte.true);
       counts = (omega arith, omega arith);
     }

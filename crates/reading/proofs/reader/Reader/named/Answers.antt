@@ -6,11 +6,11 @@ use Rattle.reading.proofs.Noting.{name-number, name-told, name_marked}
 use Rattle.reading.proofs.Spanning.{spans-part}
 use Rattle.reading.proofs.reader.Reader.named.Goals as goal
 
-pub returns-in-err-name : goal.returns-in-err-name
-returns-in-err-name c =
-    let p = err_from_is_err_and c.from-residual.result c.from-residual.ensures.1 in
+pub returns-in_err-name : goal.returns-in_err-name
+returns-in_err-name c =
+    let p = err_from_is_err_and c.from_residual.result c.from_residual.ensures.1 in
     let line = c.args.self.now.line.now in
-    let (w, g, l, r) = c.in-err-name.ensures in
+    let (w, g, l, r) = c.in_err-name.ensures in
     rw (p.1, p.2)
     (record {
       answer = λ d at. name-long line c.args.at d w at c.requires.0 c.requires.1.0 g _ l r;
@@ -21,13 +21,13 @@ pub returns-in-Colon : goal.returns-in-Colon
 returns-in-Colon c =
     let line = c.args.self.now.line.now in
     let i = c.args.at in
-    let w = c.in-ok-name.name.text.now in
-    let (token, short) = c.in-ok-name.ensures in
+    let w = c.in_ok-name.name.text.now in
+    let (token, short) = c.in_ok-name.ensures in
     let (g, place) = token in
     let p : part line c.span.result ≡ w = ap (part line) c.span.ensures ∙ ap (λ n. part line (record { place = n; len = length w })) place ∙ spans-part line i _ w g.spans in
     let t0 = noted line c.args.notes.now in
     let met = c.meet-found.ensures.told in
-    let said = c.say-link.ensures.told line in
+    let said = c.say_link.ensures.told line in
     let (number, known) = c.meet-found.ensures.answer in
     record {
       answer =
@@ -44,17 +44,17 @@ returns-in-Colon c =
       counts = (omega arith, omega arith);
     }
 
-pub returns-in-default : goal.returns-in-default
-returns-in-default c =
+pub returns-in_default : goal.returns-in_default
+returns-in_default c =
     let line = c.args.self.now.line.now in
     let i = c.args.at in
-    let w = c.in-ok-name.name.text.now in
-    let (token, short) = c.in-ok-name.ensures in
+    let w = c.in_ok-name.name.text.now in
+    let (token, short) = c.in_ok-name.ensures in
     let (g, place) = token in
     let p : part line c.span.result ≡ w = ap (part line) c.span.ensures ∙ ap (λ n. part line (record { place = n; len = length w })) place ∙ spans-part line i _ w g.spans in
     let t0 = noted line c.args.notes.now in
     let met = c.meet-found.ensures.told in
-    let said = c.say-link.ensures.told line in
+    let said = c.say_link.ensures.told line in
     let (number, known) = c.meet-found.ensures.answer in
     record {
       answer =
@@ -63,7 +63,7 @@ returns-in-default c =
             w,
             name-lawful line i d w at c.requires.0 c.requires.1.0 g short,
             g.spans,
-            name-ends line i d w at c.requires.0 c.requires.1.0 g short (λ e. c.in-default.not-Colon (c.mark.ensures ∙ e)),
+            name-ends line i d w at c.requires.0 c.requires.1.0 g short (λ e. c.in_default.not-Colon (c.mark.ensures ∙ e)),
             name-told c.args.from _ _ _ w p t0 _ _ met said number known,
           );
       counts = (omega arith, omega arith);

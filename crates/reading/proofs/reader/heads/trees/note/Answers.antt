@@ -3,17 +3,17 @@ use Rattle.features.specs.Model.{feature_names}
 use Rattle.reading.proofs.Rooting.{root_fails, root-wrong, root-right}
 use Rattle.reading.proofs.reader.heads.trees.note.Goals as goal
 
-pub returns-in-err-root : goal.returns-in-err-root
-returns-in-err-root c =
-    let p = err_from_is_err_and c.from-residual.result c.from-residual.ensures.1 in
-    rw (p.1, p.2) (root_fails (feature_names c.args.features.now) c.args.line.now c.if-line-gt-LINE.false _ c.in-err-root.ensures)
+pub returns-in_err-root : goal.returns-in_err-root
+returns-in_err-root c =
+    let p = err_from_is_err_and c.from_residual.result c.from_residual.ensures.1 in
+    rw (p.1, p.2) (root_fails (feature_names c.args.features.now) c.args.line.now c.if-line-gt-LINE.false _ c.in_err-root.ensures)
 
 pub returns-in-Some : goal.returns-in-Some
 returns-in-Some c =
     root-wrong (feature_names c.args.features.now) c.args.line.now c.if-line-gt-LINE.false c.new-notes.result c.root.new.notes
-    (c.new-notes.ensures.told c.args.line.now) c.in-ok-root.ensures c.in-Some.place c.in-Some.is
+    (c.new-notes.ensures.told c.args.line.now) c.in_ok-root.ensures c.in-Some.place c.in-Some.is
 
 pub returns-in-None : goal.returns-in-None
 returns-in-None c =
     root-right (feature_names c.args.features.now) c.args.line.now c.if-line-gt-LINE.false c.new-notes.result c.root.new.notes
-    (c.new-notes.ensures.told c.args.line.now) c.in-ok-root.ensures c.in-None.is
+    (c.new-notes.ensures.told c.args.line.now) c.in_ok-root.ensures c.in-None.is

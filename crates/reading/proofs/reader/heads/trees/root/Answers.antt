@@ -9,15 +9,15 @@ use Rattle.reading.proofs.reader.heads.trees.root.Goals as goal
 pub term-requires : goal.term-requires
 term-requires c = (c.requires.0, (omega arith, (runs_none limits c.args.line.now, ((omega (arith, c.requires.1.0), omega (arith, c.requires.1.1)), omega arith))))
 
-pub returns-in-err-end : goal.returns-in-err-end
-returns-in-err-end c =
-    let p = err_from_is_err_and c.from-residual.result c.from-residual.ensures.1 in
-    rw (p.1, p.2) c.in-err-end.ensures
+pub returns-in_err-end : goal.returns-in_err-end
+returns-in_err-end c =
+    let p = err_from_is_err_and c.from_residual.result c.from_residual.ensures.1 in
+    rw (p.1, p.2) c.in_err-end.ensures
 
 pub returns-then-end-line : goal.returns-then-end-line
 returns-then-end-line c =
-    behind (feature_names c.args.features.now) c.args.line.now c.args.notes.now c.term.new.notes c.in-ok-end.end c.in-ok-end.ensures c.if-end-line.true
+    behind (feature_names c.args.features.now) c.args.line.now c.args.notes.now c.term.new.notes c.in_ok-end.end c.in_ok-end.ensures c.if-end-line.true
 
 pub returns : goal.returns
 returns c =
-    whole_line (feature_names c.args.features.now) c.args.line.now c.args.notes.now c.term.new.notes c.in-ok-end.end c.in-ok-end.ensures c.if-end-line.false
+    whole_line (feature_names c.args.features.now) c.args.line.now c.args.notes.now c.term.new.notes c.in_ok-end.end c.in_ok-end.ensures c.if-end-line.false
