@@ -73,7 +73,7 @@ fn depth_of(depths: &[usize], variable: usize) -> usize
 
 // One statement more, and where its value is the next variable the depth of that.
 fn push<K: Copy>(rows: &mut Vec<Said<K>>, depths: &mut Vec<usize>, said: Said<K>)
-    requires rows_len_bound { (vec_len rows.old < vec_capacity rows.old) × (vec_len depths.old < vec_capacity depths.old) }
+    requires room { (vec_len rows.old < vec_capacity rows.old) × (vec_len depths.old < vec_capacity depths.old) }
     requires deep { depths.old.items ≡ depths-of (statements-of rows.old.items) }
     ensures items { rows.new.items ≡ rows.old.items ++ said ∷ [] }
     ensures deep { depths.new.items ≡ depths-of (statements-of rows.new.items) }

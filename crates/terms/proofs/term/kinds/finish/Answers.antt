@@ -30,8 +30,8 @@ returns-then-notes-term g c =
     let room = c.args.term.now.room in
     let line = c.args.line.now in
     let notes = c.args.notes.now in
-    let (us, o) = c.in-default.ensures.first in
-    let over : room < length us = omega (arith, same_length m _ us (only_reads m _ us o), c.first-wrong.ensures.count) in
+    let (us, o) = c.in_default.ensures.first in
+    let over : room < length us = omega (arith, same_length m _ us (only_reads m _ us o), c.first_wrong.ensures.count) in
     record {
       answer = λ F f. refused_memory m F n line notes f us o room over;
       fixed = λ F f. settled_refusal m F n line notes f room Memory _ (refused_memory m F n line notes f us o room over);
@@ -40,8 +40,8 @@ returns-then-notes-term g c =
       fields = (refl, λ k. absurd (both_ways _ refl k));
     }
 
-pub invariant-of-term : goal.invariant-of-term
-invariant-of-term g c =
+pub invariant_of-term : goal.invariant_of-term
+invariant_of-term g c =
     let m = g.O.WrittenOrder.texts c.args.order.now in
     let t = c.args.term.now in
     let line = c.args.line.now in
@@ -50,10 +50,14 @@ invariant-of-term g c =
     let us = vec_items rows in
     let o = c.fill.ensures.read in
     let (F, f) = c.requires in
-    let fits : rows.len ≤ t.room = omega (arith, same_length m _ us (only_reads m _ us o), c.first-wrong.ensures.count, rows.ok.0, c.if-notes-term.false) in (
-      lawful-read m F c.args.features line notes f us o,
-      (c.fill.ensures.deep, (fits, (omega (arith, c.fill.ensures.capacity.0, t.held), (omega (arith, c.fill.ensures.capacity.1, t.spare), tt)))),
-    )
+    let fits : rows.len ≤ t.room = omega (arith, same_length m _ us (only_reads m _ us o), c.first_wrong.ensures.count, rows.ok.0, c.if-notes-term.false) in
+    record {
+      lawful = lawful-read m F c.args.features line notes f us o;
+      deep = c.fill.ensures.deep;
+      within = fits;
+      held = omega (arith, c.fill.ensures.capacity.0, t.held);
+      spare = omega (arith, c.fill.ensures.capacity.1, t.spare);
+    }
 
 pub returns : goal.returns
 returns g c =
@@ -64,7 +68,7 @@ returns g c =
     let notes = c.args.notes.now in
     let us = vec_items c.fill.new.rows in
     let o = c.fill.ensures.read in
-    let fits : length us ≤ room = omega (arith, same_length m _ us (only_reads m _ us o), c.first-wrong.ensures.count, c.if-notes-term.false) in
+    let fits : length us ≤ room = omega (arith, same_length m _ us (only_reads m _ us o), c.first_wrong.ensures.count, c.if-notes-term.false) in
     record {
       answer = λ F f. accepted m F n line notes f us o room fits;
       fixed = λ F f. settled m F n line notes f us o room fits;
