@@ -19,8 +19,8 @@ loop-i-preserved g c =
     let ss = statements (said_of c.args.term.now) in
     row_more m F ss c.loop-i.i c.unwrap-statement.result (vec_items c.loop-i.text) _
     (subst (From1 ss (c.loop-i.i + 1)) c.unwrap-statement.ensures c.statement.ensures)
-    c.in-ok-extend-from-slice.ensures.items
-    c.in-ok-put-row.ensures
+    c.in_ok-extend_from_slice.ensures.items
+    c.in_ok-put_row.ensures
     c.loop-i.invariant
 
 pub returns : goal.returns
