@@ -1,14 +1,14 @@
 -- When kinds with something under both have a widest such kind.
-use Rattle.std.proofs.Common.{◌≡◌, ℕ, zero, suc, ◌+◌, ◌^◌, ◌<◌, ◌≤◌, Bool, true, false, ◌&&◌, ◌||◌, eqb, ◌⊎◌, List, [], ◌∷◌, length, Decides, sym, refl, ap, ◌∙◌, subst, inl, inr, le_antisymm, arith, pow_mono}
+use Rattle.std.proofs.Common.{◌≡◌, ℕ, zero, suc, ◌^◌, ◌<◌, ◌≤◌, true, false, List, length, Decides, sym, refl, ap, ◌∙◌, subst, inl, inr, arith, pow_mono}
 use lib.Bits.{bit_and, and_le_l}
 use lib.Count.{count_trailing_zeros}
 use Rattle.std.proofs.lemmas.Bool.Decides.{same_from_decides, Decides-like}
-use Rattle.std.proofs.lemmas.Bool.{and_parts, and_from, or_cases, or_parts, eqb-true, eqb-false, eq-eqb, both_ways, cases_lt, cases_eq, cases_Bool, cases_order}
+use Rattle.std.proofs.lemmas.Bool.{and_parts, and_from, or_cases, or_parts, eqb-true, eqb-false, both_ways, cases_lt, cases_eq, cases_Bool, cases_order}
 use Rattle.declarations.specs.Declarations.{Declaration, Under, Widest, NoWidest, sound}
 use Rattle.declarations.specs.Declarations.Under.{itself}
 use Rattle.declarations.specs.Rows.{bit, row, meets, meets_all, closed_to, closed}
 use Rattle.declarations.proofs.Binary.{bit-none, bit-bit_and, bit_past, Lowest, lowest, same_bits}
-use Rattle.declarations.proofs.Grown.{Right, shared}
+use Rattle.declarations.proofs.Grown.{Right}
 use Rattle.declarations.proofs.Above.{under-through, under_le, under-any, stray-under}
 
 module _ (limit : ℕ) (ds : List Declaration) (rows : List ℕ) (ok : sound ds ≡ true) (r : Right ds rows) (few : length ds ≤ limit) where

@@ -1,7 +1,7 @@
 -- A line has one outcome: a lawful line has one reading, and an accepted line is refused for nothing.
-use Rattle.std.proofs.Common.{◌≡◌, ℕ, ◌+◌, ◌<◌, ◌≤◌, Bool, true, false, not, ◌&&◌, ltb, leb, ◌⊎◌, List, [], ◌∷◌, ◌++◌, length, get_or, take, drop, Ok, Err, Result, sym, refl, ap, ◌∙◌, subst, ap₂, inl, inr, arith, length-append}
+use Rattle.std.proofs.Common.{◌≡◌, ℕ, ◌+◌, ◌<◌, ◌≤◌, Bool, true, false, not, ◌&&◌, ltb, leb, List, [], ◌∷◌, ◌++◌, length, get_or, Ok, Err, Result, sym, refl, ap, ◌∙◌, subst, ap₂, inl, inr, arith}
 use Rattle.std.specs.List.{AllByRecursion as All}
-use Rattle.std.proofs.lemmas.List.{take-append-drop, append_cancel_left, get_or_at}
+use Rattle.std.proofs.lemmas.List.{append_cancel_left, get_or_at}
 use Rattle.std.proofs.lemmas.Bool.{and_parts, both_ways, ltb-true, leb-true, not-true, cases_lt}
 use Rattle.orders.proofs.Fronts.{Ends, same_fronts}
 use Rattle.refusals.proofs.Broken.{breaks-apart, breaks-same}
@@ -9,8 +9,8 @@ use Rattle.refusals.proofs.Known.{same_refusal}
 use Rattle.refusals.specs.declared.Refusal.{Refusal}
 use Rattle.declarations.specs.Names.{letter, name_byte, all_name, is_name, listed}
 use Rattle.declarations.specs.Declarations.{Declaration, names}
-use Rattle.declarations.specs.Lines.{tail, Line, GoesOn, Breaks, LongName, TooMuch, Known, Unknown, FirstUnknown, WrongWord, numbers, Accepts, Refuses, Declares}
-use Rattle.declarations.proofs.Words.{letter-name, blank_apart, name-some, front_at}
+use Rattle.declarations.specs.Lines.{tail, Line, TooMuch, Known, Unknown, WrongWord, numbers, Accepts, Refuses, Declares}
+use Rattle.declarations.proofs.Words.{letter-name, blank_apart, front_at}
 
 all-bytes : (bs : List ℕ) → all_name bs ≡ true → All (λ b. name_byte b ≡ true) bs
 unfolding all_name

@@ -1,14 +1,14 @@
 -- The rows of declared kinds are right: bit j of row i is set exactly when kind j is at or under kind i.
-use Rattle.std.proofs.Common.{◌≡◌, ℕ, zero, suc, ◌+◌, ◌^◌, ◌<◌, ◌≤◌, Bool, true, false, cond, ◌&&◌, ◌||◌, eqb, ◌⊎◌, List, [], ◌∷◌, ◌++◌, map, length, get_or, Decides, sym, refl, ap, ◌∙◌, subst, inl, inr, append_assoc, pow-suc, add-one, arith, length-append}
+use Rattle.std.proofs.Common.{◌≡◌, ℕ, zero, suc, ◌+◌, ◌^◌, ◌<◌, ◌≤◌, Bool, true, false, ◌||◌, eqb, ◌⊎◌, List, [], ◌∷◌, ◌++◌, map, length, Decides, sym, refl, ap, ◌∙◌, subst, inl, inr, append_assoc, pow-suc, add-one, arith}
 use lib.Bits.{bit_and, bit_or, or_lt, and_le_l}
-use Rattle.std.proofs.lemmas.Nat.{pow_below, pow_pos}
+use Rattle.std.proofs.lemmas.Nat.{pow_below}
 use Rattle.std.proofs.lemmas.List.{append-nil, get_or_append_left, get_or_push, get_or-map, length-map, length_push}
-use Rattle.std.proofs.lemmas.Bool.{and_parts, and_from, or_cases, or_left, or_right, or_from, eqb-true, eq-eqb, ne_eqb, eqb-false, both_ways, cases_lt, cases_eq, cases_Bool, cond-true, cond-false}
-use Rattle.declarations.specs.Declarations.{Declaration, stray, wider_of, among, Under, sound, follows, follow_on, all_below}
+use Rattle.std.proofs.lemmas.Bool.{and_parts, and_from, or_right, eqb-true, eq-eqb, ne_eqb, both_ways, cases_lt, cases_eq, cases_Bool, cond-true, cond-false}
+use Rattle.declarations.specs.Declarations.{Declaration, stray, wider_of, among, Under, sound, follows, follow_on}
 use Rattle.declarations.specs.Declarations.Under.{itself, above}
 use Rattle.declarations.specs.Rows.{bit, mask_of, grown, add_row, add_rows, rows_of, row}
-use Rattle.declarations.proofs.Binary.{bit-none, bit-bit_and, bit-bit_or, bit-pow, bit_past, Lowest, lowest}
-use Rattle.declarations.proofs.Sound.{Follows, follows_parts, among_below, earlier, sound_push}
+use Rattle.declarations.proofs.Binary.{bit-none, bit-bit_and, bit-bit_or, bit-pow, bit_past, lowest}
+use Rattle.declarations.proofs.Sound.{follows_parts, among_below, earlier, sound_push}
 
 pub bit_mask : (xs : List ℕ) (w : ℕ) → bit (mask_of xs) w ≡ among w xs
 unfolding mask_of among

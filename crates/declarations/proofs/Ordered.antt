@@ -1,10 +1,10 @@
 -- The order of a closed list of kinds: the five rules, over every number.
-use Rattle.std.proofs.Common.{◌≡◌, ℕ, zero, suc, ◌+◌, ◌<◌, ◌≤◌, Bool, true, false, cond, ◌&&◌, eqb, ltb, ◌⊎◌, List, [], ◌∷◌, length, Some, None, Option, sym, refl, ap, ◌∙◌, subst, inl, inr, arith}
+use Rattle.std.proofs.Common.{◌≡◌, ℕ, ◌<◌, ◌≤◌, true, ◌&&◌, eqb, ltb, ◌⊎◌, List, length, Some, None, Option, sym, ◌∙◌, subst, inl, inr, arith}
 use lib.Bits.{bit_and}
 use lib.Count.{count_trailing_zeros}
-use Rattle.std.proofs.lemmas.Bool.{and_parts, and_from, and_cases, eqb-true, eqb-false, eq-eqb, ne_eqb, ltb-true, ltb-false, lt-ltb, le-ltb, and_left, and_right, both_ways, cases_lt, cases_eq, cases_Bool, cond-true, cond-false, cond_both}
+use Rattle.std.proofs.lemmas.Bool.{and_from, eqb-true, eqb-false, eq-eqb, ne_eqb, lt-ltb, le-ltb, and_left, and_right, cases_lt, cases_eq, cond-true, cond-false, cond_both}
 use Rattle.orders.specs.Meaning.{Meaning, IsCommon}
-use Rattle.declarations.specs.Declarations.{Declaration, Under, Widest, NoWidest, sound}
+use Rattle.declarations.specs.Declarations.{Declaration, Under, NoWidest, sound}
 use Rattle.declarations.specs.Declarations.Under.{itself}
 use Rattle.declarations.specs.Rows.{row, rows_of, lowest_in, stray_common, common_in, closed}
 use Rattle.declarations.proofs.Grown.{Right, rows_right}

@@ -1,14 +1,13 @@
 -- Going over a line byte by byte decides its grammar.
-use Rattle.std.proofs.Common.{◌≡◌, ℕ, zero, suc, ◌+◌, ◌<◌, ◌≤◌, Bool, true, false, cond, ◌&&◌, ◌||◌, eqb, ◌⊎◌, List, [], ◌∷◌, ◌++◌, length, get_or, take, drop, Some, None, Option, sym, refl, ap, ◌∙◌, subst, inl, inr, append_assoc, arith}
+use Rattle.std.proofs.Common.{◌≡◌, ℕ, ◌+◌, ◌<◌, ◌≤◌, true, false, eqb, List, [], ◌∷◌, ◌++◌, length, get_or, take, Some, None, Option, sym, refl, ap, ◌∙◌, inl, inr, arith}
 use Rattle.std.specs.List.{AllByRecursion as All}
-use Rattle.std.proofs.lemmas.List.{append-nil, take_more, take_all, take-append-drop}
-use Rattle.std.proofs.lemmas.Bool.{and_parts, and_from, both_ways, cases_Bool, cases_eq, eqb-true, eq-eqb, cond-true, cond-false}
+use Rattle.std.proofs.lemmas.List.{take_more, take_all}
+use Rattle.std.proofs.lemmas.Bool.{and_parts, and_from, both_ways, cases_Bool, eqb-true, cond-true, cond-false}
 use Rattle.declarations.specs.declared.line.Part.{Part}
 use Rattle.declarations.specs.declared.line.Part.TheVariants.{Start, Name, Blank, Wider}
 use Rattle.declarations.specs.Names.{letter, name_byte, all_name, is_name}
-use Rattle.declarations.specs.Lines.{tail, Line, GoesOn, Breaks, Scanned}
+use Rattle.declarations.specs.Lines.{tail, Line, GoesOn, Breaks}
 use Rattle.declarations.specs.Scanner.{next_part}
-use Rattle.declarations.proofs.Words.{letter-name, blank_apart}
 
 unfoldable pub runs : Part → List ℕ → Option Part
 runs p [] = Some p

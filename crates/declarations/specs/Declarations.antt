@@ -1,6 +1,6 @@
 -- Declared kinds, in the order of their numbers, and which kinds are at or under which.
 -- Example: after `any`, the declarations `a any`, `b any` and `c a b` have the numbers 1, 2 and 3; 3 is at or under 3, 1, 2 and 0.
-use Rattle.std.specs.Prelude.{◌≡◌, ℕ, ◌<◌, ◌≤◌, Bool, true, false, cond, not, ◌&&◌, ◌||◌, ◌⊎◌, List, [], ◌∷◌, ◌++◌, map, length, Some, None, codes, Option, ◌==◌, nat_lt, slice_index_or}
+use Rattle.std.specs.Prelude.{◌≡◌, ℕ, ◌<◌, Bool, true, false, cond, not, ◌&&◌, ◌||◌, ◌⊎◌, List, [], ◌∷◌, ◌++◌, map, length, Some, None, codes, Option, ◌==◌, nat_lt, slice_index_or}
 use Rattle.std.specs.Str.{bytes_eq}
 use Rattle.declarations.specs.Names.{is_name, listed}
 

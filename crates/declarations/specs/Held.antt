@@ -1,5 +1,5 @@
 -- What a name in memory holds.
-use Rattle.std.specs.Prelude.{◌≡◌, ℕ, ◌<◌, ◌≤◌, List, length, take, Some, None, Option}
+use Rattle.std.specs.Prelude.{◌≡◌, ℕ, ◌<◌, List, length, take, Some, None, Option}
 use Rattle.declarations.specs.declared.name.Name.{Name}
 
 abbrev pub name_bytes : Name → List ℕ

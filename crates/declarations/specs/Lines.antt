@@ -4,7 +4,7 @@
 -- Refused with 1 at 0: a line of over 1,000 bytes, a name of over 24, or a lawful line for one kind too many.
 -- Refused with 2: `rent`, at 4, since it ends too early; `rent  any`, at 5; `Rent any`, at 0; `rent any `, at 9.
 -- Refused with 3: `any any`, at 0, since `any` is declared; `rent any loan`, at 9, where `loan` is not.
-use Rattle.std.specs.Prelude.{◌≡◌, ℕ, ◌+◌, ◌<◌, ◌≤◌, Bool, true, false, ◌⊎◌, List, [], ◌∷◌, ◌++◌, length, take, Some, None, Ok, Err, filter, Option, Result, ◌≢◌, slice_index}
+use Rattle.std.specs.Prelude.{◌≡◌, ℕ, ◌+◌, ◌<◌, ◌≤◌, true, false, ◌⊎◌, List, [], ◌∷◌, ◌++◌, length, take, Some, None, Ok, Err, filter, Option, Result, ◌≢◌, slice_index}
 use Rattle.std.specs.List.{range_with_len, AllByRecursion as All}
 use Rattle.refusals.specs.declared.Refusal.{Refusal}
 use Rattle.refusals.specs.Places as places

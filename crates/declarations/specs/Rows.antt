@@ -1,8 +1,8 @@
 -- Rows of bits: bit j of row i says that kind j is at or under kind i.
-use Rattle.std.specs.Prelude.{ℕ, zero, suc, ◌+◌, ◌/◌, ◌%◌, ◌^◌, Bool, true, false, cond, ◌&&◌, ◌||◌, List, [], ◌∷◌, ◌++◌, map, length, Some, None, filter, Option, ◌==◌, bit_and, bit_or, nat_lt, slice_index}
+use Rattle.std.specs.Prelude.{ℕ, zero, suc, ◌/◌, ◌%◌, ◌^◌, Bool, true, cond, ◌&&◌, ◌||◌, List, [], ◌∷◌, ◌++◌, map, length, Some, None, filter, Option, ◌==◌, bit_and, bit_or, nat_lt, slice_index}
 use Rattle.std.specs.Int.Count.{count_trailing_zeros}
 use Rattle.std.specs.List.{range_with_len}
-use Rattle.declarations.specs.Declarations.{Declaration, among}
+use Rattle.declarations.specs.Declarations.{Declaration}
 
 -- whether bit j of a number is set
 unfoldable pub bit : ℕ → ℕ → Bool

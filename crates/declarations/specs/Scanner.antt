@@ -1,5 +1,5 @@
 -- A line that declares a kind, byte by byte: what may come next.
-use Rattle.std.specs.Prelude.{ℕ, Bool, cond, Some, None, Option, ◌==◌}
+use Rattle.std.specs.Prelude.{ℕ, cond, Some, None, Option, ◌==◌}
 use Rattle.declarations.specs.declared.line.Part.{Part}
 use Rattle.declarations.specs.declared.line.Part.TheVariants.{Start, Name, Blank, Wider}
 use Rattle.declarations.specs.Names.{letter, name_byte}

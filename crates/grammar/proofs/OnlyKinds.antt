@@ -1,7 +1,7 @@
 -- Statements are read one way: a wrong kind text has one place, and a text that one kind alone has is read as that kind.
 use Rattle.std.proofs.Common.{◌≡◌, ℕ, List, [], ◌∷◌, ◌++◌, sym, refl, ap, ◌∙◌, subst, ap₂}
 use Rattle.orders.specs.Texts.{Texts}
-use Rattle.orders.specs.Whole.{NoKind, OnlyKind}
+use Rattle.orders.specs.Whole.{NoKind}
 use Rattle.grammar.specs.declared.statement.Statement.{Statement}
 use Rattle.grammar.specs.declared.statement.Statement.TheVariants.{Kind, Feature}
 use Rattle.grammar.specs.declared.statement.Said.{Said}

@@ -5,7 +5,7 @@ use Rattle.std.proofs.lemmas.Bool.{and_parts, and_from, or_cases, or_left, or_ri
 use Rattle.declarations.specs.Declarations.{among}
 use Rattle.grammar.specs.declared.statement.Statement.{Statement}
 use Rattle.grammar.specs.declared.statement.Said.{Said}
-use Rattle.grammar.specs.Lawful.{Open, root, path_to, innermost, has, may_come, after, lawful_from, lawful, statements}
+use Rattle.grammar.specs.Lawful.{Open, root, path_to, innermost, has, may_come, after, lawful_from, statements}
 
 -- what stands open after statements
 unfoldable pub afters : {K : Type 0} → Open → List (Statement K) → Open

@@ -8,7 +8,7 @@
 -- Refused with 3: `any(loan=>fee)`, at 4, where `loan` is not declared; `any(paid=>fee,paid=>fee)`, at 14; `any(paid=>X,back=>X:fee)`, at 18.
 -- Refused with 4: `any(paid=>loan)`, at 10, where no kind is written so.
 -- Refused with 6: `any(paid=>fee)` where there is memory for two statements: it has three.
-use Rattle.std.specs.Prelude.{◌≡◌, ℕ, ◌<◌, ◌≤◌, ◌⊎◌, List, [], ◌∷◌, ◌++◌, length, take, Some, None, Ok, Err, Option, Result, ◌≢◌}
+use Rattle.std.specs.Prelude.{◌≡◌, ℕ, ◌<◌, ◌≤◌, ◌⊎◌, List, [], ◌∷◌, ◌++◌, length, take, Some, None, Ok, Err, Result, ◌≢◌}
 use Rattle.refusals.specs.declared.Refusal.{Refusal}
 use Rattle.refusals.specs.Places.{GoesOn, Breaks}
 use Rattle.refusals.specs.Table.{row}

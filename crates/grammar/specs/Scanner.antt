@@ -1,5 +1,5 @@
 -- A line byte by byte: a middle layer between the reader and the trees, which no contract of a public call cites.
-use Rattle.std.specs.Prelude.{ℕ, zero, suc, Bool, true, false, cond, List, [], ◌∷◌, take, Some, None, Option, ◌==◌}
+use Rattle.std.specs.Prelude.{ℕ, zero, suc, Bool, false, cond, List, [], ◌∷◌, take, Some, None, Option, ◌==◌}
 use Rattle.declarations.specs.Names.{letter, name_byte}
 use Rattle.orders.specs.Texts.{text_byte}
 use Rattle.grammar.specs.Words.{capital, name_letter}

@@ -3,7 +3,7 @@
 -- With the features `paid` (0) and `back` (1), `any(paid=>Y,back=>Y:fee)` has the variables 0 and 1 (`Y`), and the statements
 --   0 is at or under `any` (the word at 0); feature 0 of 0 is 1 (at 4); feature 1 of 0 is 1 (at 12); 1 is at or under `fee` (at 20).
 -- Its leftmost wrong word is the second `Y`, at 18: a name may be described only at its first place.
-use Rattle.std.specs.Prelude.{ℕ, suc, ◌+◌, Bool, true, false, cond, not, ◌||◌, List, [], ◌∷◌, ◌++◌, length, Some, None, Option}
+use Rattle.std.specs.Prelude.{ℕ, suc, ◌+◌, Bool, cond, not, ◌||◌, List, [], ◌∷◌, ◌++◌, length, Some, None, Option}
 use Rattle.std.specs.Str.{bytes_eq}
 use Rattle.declarations.specs.Names.{listed}
 use Rattle.grammar.specs.declared.statement.Statement.{Statement}

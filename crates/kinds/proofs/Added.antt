@@ -6,11 +6,10 @@ use Rattle.std.proofs.lemmas.List.{map-set, get_or-set_same, get_or-set_other, l
 use Rattle.declarations.specs.declared.name.Name.{Name}
 use Rattle.declarations.specs.Declarations.{Declaration, sound, follows}
 use Rattle.declarations.specs.Held.{name_bytes}
-use Rattle.declarations.specs.Rows.{members, mask_of, add_row, rows_of}
+use Rattle.declarations.specs.Rows.{members, add_row, rows_of}
 use Rattle.declarations.proofs.Sound.{sound_push}
 use Rattle.declarations.proofs.Grown.{rows_push}
 use Rattle.kinds.specs.Stored.{stored, stored_at}
-use Rattle.kinds.proofs.Memory.{length-stored}
 use Rattle.kinds.proofs.Members.{mask_members}
 
 counting_same : {X : Type 0} (f g : ℕ → X) (a n : ℕ) → ((k : ℕ) → a ≤ k → k < a + n → f k ≡ g k) → map f (range_with_len a n) ≡ map g (range_with_len a n)

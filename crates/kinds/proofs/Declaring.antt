@@ -1,19 +1,18 @@
 -- Declaring a line: which refusal it has, or what it declares.
-use Rattle.std.proofs.Common.{◌≡◌, ℕ, zero, suc, ◌+◌, ◌-◌, ◌^◌, ◌<◌, ◌≤◌, Bool, true, false, not, ◌&&◌, ltb, ◌⊎◌, List, [], ◌∷◌, ◌++◌, length, get_or, take, drop, Ok, Err, filter, sym, refl, ap, ◌∙◌, subst, inl, inr, arith, length-append, length-take}
+use Rattle.std.proofs.Common.{◌≡◌, ℕ, ◌-◌, ◌<◌, ◌≤◌, true, List, [], ◌∷◌, ◌++◌, length, get_or, take, drop, Ok, Err, filter, sym, refl, ap, ◌∙◌, subst, inl, inr, arith, length-take}
 use Rattle.std.specs.List.{range_with_len, AllByRecursion as All}
 use Rattle.std.specs.Str.{bytes_eq}
 use Rattle.std.proofs.lemmas.Slice.Eq.{bytes_eq-Decides}
-use Rattle.std.proofs.ByRecursion.{All-get_or}
 use Rattle.std.proofs.lemmas.List.{take-append-drop, take_at, drop_at, get_or-take, get_or_at, length-take-le}
-use Rattle.std.proofs.lemmas.Bool.{and_from, or_left, not_from_false, cases_lt, cases_order, both_ways}
+use Rattle.std.proofs.lemmas.Bool.{and_from, or_left, not_from_false, cases_lt}
 use Rattle.refusals.specs.declared.Refusal.{Refusal}
 use Rattle.refusals.specs.declared.Refusal.TheVariants.{Grammar}
 use Rattle.refusals.specs.Table.{row}
 use Rattle.declarations.specs.declared.name.Name.{Name}
 use Rattle.declarations.specs.Held.{name_bytes}
-use Rattle.declarations.specs.Names.{is_name, name_byte, listed}
-use Rattle.declarations.specs.Declarations.{Declaration, name_of, names, follows, all_below}
-use Rattle.declarations.specs.Lines.{tail, Line, GoesOn, Breaks, LongName, TooMuch, Known, Unknown, FirstUnknown, WrongWord, numbers, Accepts, Refuses}
+use Rattle.declarations.specs.Names.{is_name, listed}
+use Rattle.declarations.specs.Declarations.{Declaration, name_of, follows, all_below}
+use Rattle.declarations.specs.Lines.{tail, Line, Breaks, LongName, TooMuch, Known, Unknown, FirstUnknown, numbers, Accepts, Refuses}
 use Rattle.declarations.specs.Rows.{bit, members}
 use Rattle.declarations.proofs.Sound.{listed_is}
 use Rattle.declarations.proofs.Words.{name-some, name_at, blank_apart}

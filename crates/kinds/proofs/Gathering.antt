@@ -1,22 +1,20 @@
 -- Gathering the wider kinds that a line names.
-use Rattle.std.proofs.Common.{◌≡◌, ℕ, zero, suc, ◌+◌, ◌-◌, ◌*◌, ◌%◌, ◌^◌, ◌<◌, ◌≤◌, Bool, true, false, ◌||◌, eqb, ◌⊎◌, List, [], ◌∷◌, ◌++◌, length, take, drop, Ok, Err, sym, refl, ap, ◌∙◌, subst, inl, inr, append_assoc, arith, length-append, length-drop}
+use Rattle.std.proofs.Common.{◌≡◌, ℕ, ◌+◌, ◌-◌, ◌*◌, ◌%◌, ◌^◌, ◌<◌, ◌≤◌, Bool, true, false, ◌||◌, eqb, List, [], ◌∷◌, ◌++◌, length, take, drop, Ok, sym, refl, ap, ◌∙◌, subst, inl, inr, append_assoc, arith, length-append, length-drop}
 use lib.Bits.{bit_or, or_lt}
 use Rattle.std.specs.List.{AllByRecursion as All}
 use Rattle.std.specs.Str.{bytes_eq}
 use Rattle.std.proofs.lemmas.Nat.{pow_pos, pow_below, one_shl}
 use Rattle.std.proofs.ByRecursion.{All-push}
 use Rattle.std.proofs.lemmas.Slice.Eq.{bytes_eq-Decides}
-use Rattle.std.proofs.lemmas.List.{append-nil, drop_at, take_at, drop-drop, drop_more, nil_from_length}
-use Rattle.std.proofs.lemmas.Bool.{cases_eq, cases_Bool, eq-eqb, ne_eqb, both_ways}
-use Rattle.refusals.specs.declared.Refusal.{Refusal}
-use Rattle.refusals.specs.Table.{row}
+use Rattle.std.proofs.lemmas.List.{append-nil, drop_at, take_at, drop-drop}
+use Rattle.std.proofs.lemmas.Bool.{cases_eq, cases_Bool, eq-eqb, ne_eqb}
 use Rattle.declarations.specs.Names.{is_name, listed}
-use Rattle.declarations.specs.Declarations.{Declaration, name_of, names, sound}
+use Rattle.declarations.specs.Declarations.{Declaration, name_of, sound}
 use Rattle.declarations.specs.Lines.{tail, Known, Unknown, FirstUnknown}
 use Rattle.declarations.specs.Rows.{bit}
 use Rattle.declarations.proofs.Binary.{bit-none, bit-bit_or, bit-pow}
 use Rattle.declarations.proofs.Sound.{listed_at, same_name}
-use Rattle.kinds.specs.Model.{Finds, Gathers}
+use Rattle.kinds.specs.Model.{Gathers}
 
 tail_push : (vs : List (List ℕ)) (w : List ℕ) → length (tail (vs ++ w ∷ [])) ≡ length (tail vs) + 1 + length w
 unfolding tail

@@ -1,10 +1,10 @@
 -- The common kind of two numbers, by the rows in memory.
-use Rattle.std.proofs.Common.{◌≡◌, ℕ, ◌<◌, ◌≤◌, Bool, true, false, cond, ◌&&◌, ltb, ◌⊎◌, List, length, get_or, take, sym, refl, ap, ◌∙◌, inl, inr, arith}
+use Rattle.std.proofs.Common.{◌≡◌, ℕ, ◌<◌, ◌≤◌, true, ◌⊎◌, List, length, get_or, take, sym, ap, ◌∙◌, inl, inr, arith}
 use lib.Bits.{bit_and}
 use Rattle.std.proofs.lemmas.Bool.{and_from, and_left, and_right, lt-ltb, le-ltb, cond-true, cond-false}
 use Rattle.declarations.specs.Declarations.{Declaration, sound}
 use Rattle.declarations.specs.Rows.{row, rows_of, lowest_in, stray_common, common_in}
-use Rattle.declarations.proofs.Grown.{Right, rows_right}
+use Rattle.declarations.proofs.Grown.{rows_right}
 use Rattle.kinds.proofs.Pairing.{both_is}
 
 module _ (ds : List Declaration) (rows : List ℕ) (n : ℕ) (ok : sound ds ≡ true) (size : length ds ≡ n) (few : n ≤ 64) (right : take n rows ≡ rows_of ds) (a b : ℕ) where

@@ -1,14 +1,13 @@
 -- Sets of numbers as bits and as rising lists.
-use Rattle.std.proofs.Common.{◌≡◌, ℕ, zero, suc, ◌+◌, ◌^◌, ◌<◌, ◌≤◌, Bool, true, false, cond, ◌&&◌, ◌||◌, eqb, ltb, ◌⊎◌, List, [], ◌∷◌, length, filter, sym, refl, ap, ◌∙◌, inl, inr, arith}
-use lib.Bits.{bit_or, or_lt}
+use Rattle.std.proofs.Common.{◌≡◌, ℕ, zero, suc, ◌+◌, ◌^◌, ◌<◌, ◌≤◌, Bool, true, false, cond, eqb, ltb, ◌⊎◌, List, [], ◌∷◌, length, filter, sym, refl, ap, ◌∙◌, inl, inr, arith}
+use lib.Bits.{or_lt}
 use Rattle.std.specs.List.{range_with_len}
 use Rattle.std.proofs.lemmas.Nat.{pow_pos, pow_below}
-use Rattle.std.proofs.lemmas.Bool.{and_parts, and_from, or_cases, or_left, or_right, eqb-true, eq-eqb, ltb-true, lt-ltb, both_ways, cases_Bool, cases_eq, cases_lt}
+use Rattle.std.proofs.lemmas.Bool.{and_parts, and_from, or_cases, or_left, or_right, eqb-true, eq-eqb, ltb-true, lt-ltb, both_ways, cases_Bool, cases_eq}
 use Rattle.declarations.specs.Declarations.{among, all_below}
 use Rattle.declarations.specs.Rows.{bit, members, mask_of}
-use Rattle.declarations.proofs.Binary.{bit_past, same_bits}
+use Rattle.declarations.proofs.Binary.{same_bits}
 use Rattle.declarations.proofs.Grown.{bit_mask}
-use Rattle.declarations.proofs.Sound.{among_below}
 
 module _ (p : ℕ → Bool) where
   -- one number in front of those that pass

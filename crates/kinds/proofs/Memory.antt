@@ -1,10 +1,9 @@
 -- Declarations in memory, one by one.
-use Rattle.std.proofs.Common.{◌≡◌, ℕ, ◌+◌, ◌<◌, ◌≤◌, List, [], ◌∷◌, ◌++◌, map, length, get_or, sym, refl, ap, ◌∙◌, zero-add, arith}
-use Rattle.std.specs.List.{range_with_len}
+use Rattle.std.proofs.Common.{◌≡◌, ℕ, ◌<◌, ◌≤◌, List, [], length, get_or, ap, ◌∙◌, zero-add, arith}
 use Rattle.std.proofs.lemmas.List.FromFn.{length-map-range_with_len, get_or-map-range_with_len}
 use Rattle.std.proofs.lemmas.List.{get_or-map}
 use Rattle.declarations.specs.declared.name.Name.{Name}
-use Rattle.declarations.specs.Declarations.{Declaration, stray, name_of, wider_of}
+use Rattle.declarations.specs.Declarations.{stray, name_of}
 use Rattle.declarations.specs.Held.{name_bytes}
 use Rattle.kinds.specs.Stored.{stored, stored_at}
 

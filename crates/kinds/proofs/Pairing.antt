@@ -1,12 +1,12 @@
 -- Pairs of kinds by the rows in memory.
-use Rattle.std.proofs.Common.{◌≡◌, ℕ, ◌+◌, ◌<◌, ◌≤◌, Bool, true, false, ◌||◌, eqb, ◌⊎◌, List, length, get_or, take, sym, refl, ap, ◌∙◌, subst, ap₂, inl, inr, arith}
+use Rattle.std.proofs.Common.{◌≡◌, ℕ, ◌<◌, ◌≤◌, true, false, ◌||◌, eqb, List, length, get_or, take, sym, ap, ◌∙◌, subst, ap₂, inl, inr, arith}
 use lib.Bits.{bit_and}
 use lib.Count.{count_trailing_zeros}
 use Rattle.std.proofs.lemmas.List.{get_or-take}
 use Rattle.std.proofs.lemmas.Bool.{eq-eqb, ne_eqb, or_left, cases_lt}
-use Rattle.declarations.specs.Declarations.{Declaration, NoWidest, First, Before, sound}
+use Rattle.declarations.specs.Declarations.{Declaration, NoWidest, First, sound}
 use Rattle.declarations.specs.Rows.{row, rows_of, meets, closed}
-use Rattle.declarations.proofs.Grown.{Right, rows_right}
+use Rattle.declarations.proofs.Grown.{rows_right}
 use Rattle.declarations.proofs.Closing.{low_within, not_meets, meets_not, closed_pairs}
 use Rattle.declarations.proofs.Ordered.{strays_common, common_not}
 

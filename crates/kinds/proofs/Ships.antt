@@ -1,12 +1,12 @@
 -- The shipped lines are accepted one after the other, and close.
-use Rattle.std.proofs.Common.{◌≡◌, ℕ, zero, suc, ◌+◌, ◌<◌, ◌≤◌, true, List, [], ◌∷◌, ◌++◌, length, get_or, take, Ok, Err, codes, Result, sym, refl, ap, ◌∙◌, subst, arith}
+use Rattle.std.proofs.Common.{◌≡◌, ℕ, zero, suc, ◌+◌, ◌<◌, true, List, [], ◌∷◌, ◌++◌, get_or, take, Ok, Err, codes, Result, sym, refl, ap, ◌∙◌, subst, arith}
 use lib.Count.{count_trailing_zeros}
 use Rattle.std.proofs.lemmas.List.{take_more}
 use Rattle.refusals.specs.declared.Refusal.{Refusal}
 use Rattle.declarations.specs.Names.{all_name, listed}
 use Rattle.declarations.specs.Declarations.{Declaration, stray, all_below, follow_on, sound}
 use Rattle.declarations.specs.Lines.{tail, Accepts, Declares}
-use Rattle.declarations.specs.Rows.{rows_of, add_rows, mask_of, bit, meets_all, closed_to, closed}
+use Rattle.declarations.specs.Rows.{rows_of, add_rows, mask_of, meets_all, closed_to, closed}
 use Rattle.declarations.proofs.Determined.{all-names, all_listed, accepts_is, accepted}
 use Rattle.declarations.proofs.Grown.{rows_right}
 use Rattle.declarations.proofs.Ordered.{common_holds, common_not}

@@ -1,12 +1,12 @@
 -- What the calls on declared kinds answer.
-use Rattle.std.specs.Prelude.{◌≡◌, ℕ, ◌+◌, ◌^◌, ◌<◌, ◌≤◌, true, false, List, [], ◌∷◌, ◌++◌, length, Some, None, Ok, Err, Option, Result}
+use Rattle.std.specs.Prelude.{◌≡◌, ℕ, ◌^◌, ◌<◌, true, false, List, [], ◌∷◌, length, Some, None, Ok, Err, Option, Result}
 use Rattle.std.specs.List.{AllByRecursion as All}
 use Rattle.refusals.specs.declared.Refusal.{Refusal}
 use Rattle.refusals.specs.Table.{row}
-use Rattle.declarations.specs.Names.{is_name, listed}
+use Rattle.declarations.specs.Names.{listed}
 use Rattle.declarations.specs.Held.{name_bytes}
 use Rattle.declarations.specs.Declarations.{Declaration, name_of, follows, NoWidest, First}
-use Rattle.declarations.specs.Lines.{tail, Known, Unknown, FirstUnknown, Accepts, Refuses}
+use Rattle.declarations.specs.Lines.{Known, Unknown, FirstUnknown, Accepts, Refuses}
 use Rattle.declarations.specs.Rows.{bit, members, rows_of, meets, closed}
 use Rattle.kinds.specs.declared.draft.declares.Declared.{Declared}
 use Rattle.kinds.specs.declared.table.Table.{Table}

@@ -1,5 +1,5 @@
 -- A line has one answer: its texts, the place where it breaks and its refusal are fixed.
-use Rattle.std.proofs.Common.{◌≡◌, ℕ, ◌+◌, ◌⊎◌, List, length, Some, Ok, Err, Option, Result, sym, refl, ap, ◌∙◌, inl, inr}
+use Rattle.std.proofs.Common.{◌≡◌, ℕ, ◌+◌, List, length, Some, Ok, Err, Result, sym, refl, ap, ◌∙◌, inl, inr}
 use Rattle.orders.specs.Meaning.{Meaning}
 use Rattle.orders.specs.Texts.{Texts}
 use Rattle.refusals.specs.declared.Refusal.{Refusal}
@@ -7,7 +7,7 @@ use Rattle.refusals.proofs.Broken.{breaks-apart, breaks-same}
 use Rattle.refusals.proofs.Known.{same_refusal}
 use Rattle.narrowing.specs.declared.narrow.Narrowed.{Narrowed}
 use Rattle.narrowing.specs.Lines.{Line}
-use Rattle.narrowing.specs.Narrowing.{TooLong, WrongText, Unlawful, Refuses, Answers, Narrows}
+use Rattle.narrowing.specs.Narrowing.{WrongText, Refuses, Answers, Narrows}
 use Rattle.narrowing.proofs.Blanks.{same_first, same_second}
 
 module _ {K : Type 0} (o : Meaning K) (m : Texts K) (line : List ℕ) where

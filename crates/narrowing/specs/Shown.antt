@@ -2,7 +2,7 @@
 --
 -- `by_dd/-500..0 returned/-900..-100` gives `by_dd/-500..0 and returned/-900..-100: returned_dd/-500..-100`,
 -- `credit/1..9 debit/1..9` gives `credit/1..9 and debit/1..9: nothing can be both`, and a refused line gives as `refused 4 12`.
-use Rattle.std.specs.Prelude.{ℕ, cond, List, [], ◌∷◌, ◌++◌, length, Some, None, Ok, Err, codes, Option, Result, nat_le}
+use Rattle.std.specs.Prelude.{ℕ, cond, List, ◌++◌, length, Some, None, Ok, Err, codes, Option, Result, nat_le}
 use Rattle.orders.specs.Texts.{Texts}
 use Rattle.refusals.specs.declared.Refusal.{Refusal}
 use Rattle.refusals.specs.Table.{row, printed}

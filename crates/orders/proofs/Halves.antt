@@ -1,8 +1,8 @@
 -- Reading a pair: what its parts read is what it reads.
-use Rattle.std.proofs.Common.{◌≡◌, ℕ, ◌+◌, ◌<◌, ◌≤◌, List, [], ◌∷◌, ◌++◌, length, get_or, drop, Some, None, Option, sym, refl, ap, ◌∙◌, append_assoc, arith, length-append}
+use Rattle.std.proofs.Common.{◌≡◌, ℕ, ◌+◌, ◌<◌, ◌≤◌, List, ◌∷◌, ◌++◌, length, get_or, drop, Some, None, Option, sym, refl, ap, ◌∙◌, append_assoc, arith, length-append}
 use Rattle.std.proofs.lemmas.List.{drop_more, drop_at, drop-drop, get_or_at}
 use Rattle.orders.specs.declared.pair.Both.{Both}
-use Rattle.orders.specs.Texts.{Texts, Stops, Stands, Back}
+use Rattle.orders.specs.Texts.{Texts, Stands, Back}
 use Rattle.orders.specs.Pairs.{joined, pair_texts}
 
 record Parts (o p : Option (List ℕ)) (t : List ℕ) : Type 0 where

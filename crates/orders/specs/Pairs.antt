@@ -1,10 +1,9 @@
 -- Two orders as one.
-use Rattle.std.specs.Prelude.{◌≡◌, ℕ, ◌<◌, true, List, [], ◌∷◌, ◌++◌, length, Some, None, Option, refl}
+use Rattle.std.specs.Prelude.{◌≡◌, ℕ, true, List, ◌∷◌, ◌++◌, Some, None, Option, refl}
 use Rattle.std.proofs.Common.{subst, arith, length-append}
-use Rattle.std.specs.List.{AllByRecursion as All}
 use Rattle.std.proofs.ByRecursion.{All-append}
 use Rattle.orders.specs.declared.pair.Both.{Both}
-use Rattle.orders.specs.Meaning.{Meaning, IsWidest, IsCommon}
+use Rattle.orders.specs.Meaning.{Meaning, IsCommon}
 use Rattle.orders.specs.Texts.{Texts, IsText, text_byte}
 
 -- a common kind of both parts, or none

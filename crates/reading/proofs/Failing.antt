@@ -1,8 +1,8 @@
 -- Where a line breaks, and the refusal for it.
-use Rattle.std.proofs.Common.{◌≡◌, ℕ, suc, ◌+◌, ◌<◌, ◌≤◌, Bool, true, false, eqb, ◌⊎◌, List, [], ◌∷◌, length, get_or, Some, None, sym, refl, ap, ◌∙◌, subst, inl, inr, arith}
+use Rattle.std.proofs.Common.{◌≡◌, ℕ, suc, ◌+◌, ◌<◌, ◌≤◌, false, eqb, List, [], ◌∷◌, length, get_or, Some, None, sym, refl, ap, ◌∙◌, subst, inl, inr, arith}
 use Rattle.std.proofs.lemmas.Bool.{cases_lt, cond-true, cond-false}
 use Rattle.refusals.specs.declared.Refusal.TheVariants.{Limit, Grammar}
-use Rattle.grammar.specs.Scanner.{State, state, comma, closed, step, closing, accepting, here}
+use Rattle.grammar.specs.Scanner.{State, state, comma, closed, step, accepting, here}
 use Rattle.grammar.specs.Trees.{limits, no_limits}
 use Rattle.grammar.proofs.Breaking.{breaks-here, breaks-end, past_here}
 use Rattle.grammar.proofs.Scanning.{runs-more}

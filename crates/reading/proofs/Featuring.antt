@@ -1,12 +1,12 @@
 -- A feature and its arrow.
-use Rattle.std.proofs.Common.{◌≡◌, ℕ, suc, ◌+◌, ◌<◌, ◌≤◌, Bool, true, false, eqb, leb, List, [], ◌∷◌, ◌++◌, length, get_or, Some, None, sym, refl, ap, ◌∙◌, subst, inl, inr, arith}
-use Rattle.std.proofs.lemmas.Bool.{cond-true, cond-false, le-leb, or_left}
+use Rattle.std.proofs.Common.{◌≡◌, ℕ, suc, ◌+◌, ◌<◌, ◌≤◌, true, false, eqb, List, [], ◌∷◌, length, get_or, Some, sym, refl, ap, ◌∙◌, subst, inl, arith}
+use Rattle.std.proofs.lemmas.Bool.{cond-true, cond-false, or_left}
 use Rattle.declarations.specs.Names.{letter, name_byte}
 use Rattle.refusals.specs.declared.Refusal.{Refusal}
 use Rattle.refusals.specs.declared.Refusal.TheVariants.{Grammar}
 use Rattle.refusals.specs.Table.{row}
-use Rattle.grammar.specs.Scanner.{State, state, begin, comma, in_feature, equals, step, kept_if, runs, here}
-use Rattle.grammar.specs.Trees.{Limits, limits, no_limits}
+use Rattle.grammar.specs.Scanner.{state, begin, comma, in_feature, equals, step, kept_if, here}
+use Rattle.grammar.specs.Trees.{Limits, limits}
 use Rattle.grammar.specs.Words.{is_feature}
 use Rattle.grammar.proofs.Scanning.{runs-more}
 use Rattle.reading.specs.declared.reader.Class.TheVariants.{Feature}

@@ -1,11 +1,11 @@
 -- A term from its parts.
-use Rattle.std.proofs.Common.{◌≡◌, ℕ, suc, ◌+◌, ◌*◌, ◌/◌, ◌<◌, ◌≤◌, Bool, true, false, eqb, List, [], ◌∷◌, ◌++◌, length, Some, None, Ok, Err, Option, Result, sym, refl, ap, ◌∙◌, subst, append-nil, arith}
+use Rattle.std.proofs.Common.{◌≡◌, ℕ, ◌+◌, ◌<◌, ◌≤◌, Bool, true, List, [], ◌∷◌, ◌++◌, length, Some, None, Ok, Err, Option, Result, sym, refl, ap, ◌∙◌, subst, append-nil, arith}
 use Rattle.std.proofs.lemmas.Bool.{ne_eqb, false≢true}
 use Rattle.refusals.specs.declared.Refusal.{Refusal}
 use Rattle.grammar.specs.declared.statement.Statement.TheVariants.{Kind}
 use Rattle.grammar.specs.Scanner.{state, closed, here}
-use Rattle.grammar.specs.Trees.{Tree, Items, bare, described, none, item, label, written, listing, LawfulTree, LawfulList, LawfulItems, limits}
-use Rattle.grammar.specs.Told.{Told, subject, introduce, say, variable, tell, tell_items}
+use Rattle.grammar.specs.Trees.{bare, described, none, item, label, written, listing, LawfulTree}
+use Rattle.grammar.specs.Told.{Told, subject, introduce, say, tell, tell_items}
 use Rattle.grammar.specs.Words.{is_variable, is_text}
 use Rattle.reading.specs.declared.notes.Notes.{Notes}
 use Rattle.reading.specs.declared.reader.Link.{Link}
@@ -13,7 +13,7 @@ use Rattle.reading.specs.declared.reader.Head.TheVariants.{Bare, Described}
 use Rattle.reading.specs.declared.reader.Body.TheVariants.{Ends, Opens}
 use Rattle.reading.specs.Links.{linked, links}
 use Rattle.reading.specs.Notes.{noted}
-use Rattle.reading.specs.Reading.{Spans, Ended, HeadRead, BodyRead, TermRead, ListRead, RoomAt, RoomAfter}
+use Rattle.reading.specs.Reading.{Spans, Ended, HeadRead, BodyRead, TermRead, ListRead, RoomAt}
 use Rattle.reading.proofs.Spanning.{spans_join}
 
 word_some : (first other : ℕ → Bool) (w : List ℕ) → Rattle.grammar.specs.Words.is_word first other w ≡ true → 0 < length w

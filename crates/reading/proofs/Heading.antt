@@ -1,13 +1,13 @@
 -- The scanner over words: where a name or a feature leads, and where one is too long.
-use Rattle.std.proofs.Common.{◌≡◌, ℕ, zero, suc, ◌+◌, ◌-◌, ◌<◌, ◌≤◌, Bool, true, false, ◌&&◌, leb, List, [], ◌∷◌, ◌++◌, length, get_or, take, drop, Some, None, Option, sym, refl, ap, ◌∙◌, subst, arith}
+use Rattle.std.proofs.Common.{◌≡◌, ℕ, zero, suc, ◌+◌, ◌-◌, ◌<◌, ◌≤◌, Bool, true, List, [], ◌∷◌, length, get_or, take, drop, Some, Option, sym, refl, ap, ◌∙◌, subst, arith}
 use Rattle.std.proofs.lemmas.List.{length-take-le, get_or-take, get_or-drop, take-take}
-use Rattle.std.proofs.lemmas.Bool.{and_parts, and_from, cond-true, cond-false, le-leb, lt-leb, false≢true}
+use Rattle.std.proofs.lemmas.Bool.{and_parts, and_from, cond-true, le-leb, false≢true}
 use Rattle.grammar.specs.Lines.{PastLimits}
-use Rattle.grammar.specs.Scanner.{Part, State, state, step, start, runs, kept_if, here}
+use Rattle.grammar.specs.Scanner.{State, step, start, runs, kept_if, here}
 use Rattle.grammar.specs.Trees.{Limits, limits, no_limits}
 use Rattle.grammar.specs.Words.{all_by, is_word}
 use Rattle.grammar.proofs.Breaking.{past_here}
-use Rattle.grammar.proofs.Scanning.{onward, runs_append, runs-step, runs_nil, runs-first}
+use Rattle.grammar.proofs.Scanning.{onward, runs_append, runs_nil, runs-first}
 use Rattle.reading.specs.declared.reader.Class.{Class}
 use Rattle.reading.specs.Reading.{in_class, Spans, Longest}
 use Rattle.reading.proofs.Spanning.{spans-part, spans_between}

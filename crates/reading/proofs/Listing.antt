@@ -1,22 +1,19 @@
 -- A list from its items.
-use Rattle.std.proofs.Common.{◌≡◌, ℕ, suc, ◌+◌, ◌<◌, ◌≤◌, Bool, true, false, not, ◌||◌, List, [], ◌∷◌, ◌++◌, length, get_or, replicate, Some, None, Ok, Err, Option, Result, sym, refl, ap, ◌∙◌, subst, inl, inr, append_assoc, arith}
+use Rattle.std.proofs.Common.{◌≡◌, ℕ, suc, ◌+◌, Bool, false, not, ◌||◌, List, [], ◌∷◌, ◌++◌, length, replicate, Some, None, Ok, Err, Result, sym, refl, ap, ◌∙◌, subst, inl, inr, append_assoc, arith}
 use Rattle.std.proofs.lemmas.List.{get_or-replicate, get_or_past, length-replicate}
 use Rattle.std.proofs.lemmas.Bool.{cases_lt}
 use Rattle.refusals.specs.declared.Refusal.{Refusal}
 use Rattle.declarations.specs.Names.{listed}
 use Rattle.grammar.specs.declared.statement.Statement.TheVariants.{Feature}
-use Rattle.grammar.specs.Scanner.{state, comma, closed, here}
-use Rattle.grammar.specs.Trees.{Tree, Items, bare, described, none, item, written, more, LawfulTree, LawfulItems, limits}
+use Rattle.grammar.specs.Trees.{Tree, Items, bare, described, none, item, written, more, LawfulItems}
 use Rattle.grammar.specs.Told.{Told, index, say, mark, variable, tell, tell_items}
 use Rattle.grammar.proofs.Indexed.{listed-none}
 use Rattle.reading.specs.declared.notes.Notes.{Notes}
-use Rattle.reading.specs.declared.reader.Link.{Link}
 use Rattle.reading.specs.declared.reader.Closing.TheVariants.{More, Done}
 use Rattle.reading.specs.declared.reader.Token.{Token}
 use Rattle.reading.specs.declared.reader.heads.trees.Looked.{Looked}
-use Rattle.reading.specs.Links.{linked, links}
 use Rattle.reading.specs.Notes.{noted}
-use Rattle.reading.specs.Reading.{Spans, Ended, ClosingRead, FeatureRead, TermRead, ListRead, Seen, LooksUp, RoomAt, RoomAfter}
+use Rattle.reading.specs.Reading.{Spans, ClosingRead, FeatureRead, TermRead, ListRead, Seen, LooksUp}
 use Rattle.reading.proofs.Spanning.{spans_join}
 
 -- no feature is marked at first

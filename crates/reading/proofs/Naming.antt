@@ -1,12 +1,10 @@
 -- A name at the front of a term: whole, too long, or with a colon after it.
-use Rattle.std.proofs.Common.{◌≡◌, ℕ, zero, suc, ◌+◌, ◌<◌, ◌≤◌, Bool, true, false, ◌||◌, eqb, leb, List, [], ◌∷◌, ◌++◌, length, get_or, Some, None, sym, refl, ap, ◌∙◌, subst, inl, inr, arith}
+use Rattle.std.proofs.Common.{◌≡◌, ℕ, suc, ◌+◌, ◌<◌, ◌≤◌, true, false, eqb, List, [], ◌∷◌, ◌++◌, length, get_or, Some, refl, ap, ◌∙◌, inl, arith}
 use Rattle.std.proofs.lemmas.Bool.{cond-true, cond-false, le-leb, or_left, ne_eqb}
-use Rattle.orders.specs.Texts.{text_byte}
 use Rattle.refusals.specs.declared.Refusal.{Refusal}
 use Rattle.refusals.specs.Table.{row}
-use Rattle.grammar.specs.Lines.{PastLimits}
-use Rattle.grammar.specs.Scanner.{Part, State, state, begin, in_name, colon, in_kind, step, kept_if, closing, accepting, runs, here}
-use Rattle.grammar.specs.Trees.{Limits, limits, no_limits, LawfulLabel}
+use Rattle.grammar.specs.Scanner.{Part, state, begin, in_name, colon, step, kept_if, here}
+use Rattle.grammar.specs.Trees.{Limits, limits, LawfulLabel}
 use Rattle.grammar.specs.Words.{capital, name_letter}
 use Rattle.grammar.proofs.Scanning.{runs-more}
 use Rattle.reading.specs.declared.reader.Class.TheVariants.{Name}

@@ -1,17 +1,17 @@
 -- The whole line, as the term that it is.
-use Rattle.std.proofs.Common.{◌≡◌, ℕ, ◌<◌, ◌≤◌, ◌⊎◌, List, [], ◌∷◌, ◌++◌, length, get_or, take, Some, None, Ok, Err, sym, refl, ap, ◌∙◌, subst, inl, inr, arith}
+use Rattle.std.proofs.Common.{◌≡◌, ℕ, ◌<◌, ◌≤◌, List, length, Some, None, Ok, Err, sym, refl, ap, ◌∙◌, inl, inr, arith}
 use Rattle.std.proofs.lemmas.List.{take_all}
 use Rattle.refusals.specs.declared.Refusal.{Refusal}
 use Rattle.refusals.specs.declared.Refusal.TheVariants.{Grammar, Word}
 use Rattle.grammar.specs.Lines.{PastLimits, TooMuch, Line}
-use Rattle.grammar.specs.Trees.{Tree, written, LawfulTree, limits, no_limits}
-use Rattle.grammar.specs.Told.{Told, nothing, tell, told, variable}
+use Rattle.grammar.specs.Trees.{no_limits}
+use Rattle.grammar.specs.Told.{nothing, tell, told, variable}
 use Rattle.grammar.proofs.Breaking.{lawful-within}
 use Rattle.grammar.proofs.Unlimited.{lawful_unlimited}
 use Rattle.reading.specs.declared.notes.Notes.{Notes}
 use Rattle.reading.specs.Links.{linked}
 use Rattle.reading.specs.Notes.{noted}
-use Rattle.reading.specs.Reading.{Spans, Ended, Fails, TermRead, RootRead, NotesOf}
+use Rattle.reading.specs.Reading.{Fails, TermRead, RootRead, NotesOf}
 use Rattle.reading.proofs.Failing.{fails_here}
 
 module _ (features : List (List ℕ)) (line : List ℕ) (n m : Notes) (e : ℕ) (g : TermRead features line None 0 0 n m (Ok e)) where

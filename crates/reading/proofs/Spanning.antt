@@ -1,6 +1,6 @@
 -- Parts of a line one after the other, and the longest words.
-use Rattle.std.proofs.Common.{◌≡◌, ℕ, zero, suc, ◌+◌, ◌-◌, ◌<◌, ◌≤◌, Bool, true, false, List, [], ◌∷◌, ◌++◌, length, get_or, take, drop, sym, refl, ap, ◌∙◌, subst, append_assoc, append-nil, add-zero, add-one, arith, length-append}
-use Rattle.std.proofs.lemmas.List.{take-append-drop, take-take, drop-take, drop_at, length-take-le, length-drop, get_or-take, get_or-drop, take_more, take_all}
+use Rattle.std.proofs.Common.{◌≡◌, ℕ, zero, suc, ◌+◌, ◌-◌, ◌<◌, ◌≤◌, Bool, true, List, [], ◌∷◌, ◌++◌, length, get_or, take, drop, sym, refl, ap, ◌∙◌, subst, append_assoc, append-nil, arith, length-append}
+use Rattle.std.proofs.lemmas.List.{take-append-drop, take-take, drop-take, drop_at, length-take-le, length-drop, get_or-take, get_or-drop, take_more}
 use Rattle.std.proofs.lemmas.Bool.{and_from}
 use Rattle.grammar.specs.Words.{all_by}
 use Rattle.reading.specs.declared.reader.Class.{Class}

@@ -9,7 +9,7 @@ use Rattle.grammar.specs.declared.statement.Statement.TheVariants.{Kind as KindO
 use Rattle.grammar.specs.Words.{name_letter, all_by, is_text, is_feature}
 use Rattle.grammar.specs.Trees.{Tree, Items, item, written, more, Limits, limits, no_limits, label, LawfulLabel, LawfulTree, LawfulItems}
 use Rattle.grammar.specs.Told.{Told, index, meet, subject, introduce, say, variable, tell, tell_items, told}
-use Rattle.grammar.specs.Scanner.{Part, State, state, begin, in_kind, comma, closed, step, closing, accepting, here}
+use Rattle.grammar.specs.Scanner.{Part, state, begin, in_kind, comma, closed, step, closing, accepting, here}
 use Rattle.grammar.specs.Lines.{Grammar, PastLimits, TooMuch, Line}
 use Rattle.reading.specs.declared.reader.Class.{Class}
 use Rattle.reading.specs.declared.reader.Class.TheVariants.{Name, Feature, Kind}

@@ -1,5 +1,5 @@
 -- A refusal is known by its row.
-use Rattle.std.proofs.Common.{◌≡◌, ℕ, cond, eqb, List, [], ◌∷◌, get_or, sym, refl, ap, ◌∙◌}
+use Rattle.std.proofs.Common.{◌≡◌, ℕ, cond, eqb, [], ◌∷◌, get_or, sym, refl, ap, ◌∙◌}
 use Rattle.refusals.specs.declared.Refusal.{Refusal}
 use Rattle.refusals.specs.declared.Refusal.TheVariants.{Limit, Grammar, Word, Kind, NoWidest, Memory, Cell, Feature, Full, Clash}
 use Rattle.refusals.specs.Table.{Row, row}

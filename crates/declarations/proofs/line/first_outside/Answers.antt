@@ -1,4 +1,4 @@
-use Rattle.std.proofs.Common.{◌≡◌, length, get_or, sym, ap, ◌∙◌, arith, length-append, rules}
+use Rattle.std.proofs.Common.{length, get_or, sym, ap, ◌∙◌, arith, length-append, rules}
 use Rattle.std.proofs.lemmas.List.{take_all}
 use Rattle.declarations.specs.Names.{letter}
 use Rattle.declarations.proofs.Words.{name-more, name-most}

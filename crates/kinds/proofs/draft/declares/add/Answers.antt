@@ -1,4 +1,4 @@
-use Rattle.std.proofs.Common.{◌≡◌, ◌<◌, length, refl, arith, rules}
+use Rattle.std.proofs.Common.{◌<◌, length, refl, arith, rules}
 use Rattle.kinds.proofs.Added.{stored_push, sound_added, rows_added}
 use Rattle.kinds.proofs.draft.declares.add.Goals as goal
 

@@ -1,4 +1,4 @@
-use Rattle.std.proofs.Common.{◌≡◌, ℕ, false, Ok, Err, sym, refl, ◌∙◌}
+use Rattle.std.proofs.Common.{false, Ok, Err, refl, ◌∙◌}
 use Rattle.std.proofs.lemmas.Bool.{both_ways}
 use Rattle.declarations.specs.Lines.{Declares}
 use Rattle.declarations.proofs.Determined.{one_outcome}

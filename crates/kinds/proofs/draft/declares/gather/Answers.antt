@@ -1,4 +1,4 @@
-use Rattle.std.proofs.Common.{◌≡◌, ◌+◌, ◌≤◌, length, refl, ◌∙◌, subst, arith}
+use Rattle.std.proofs.Common.{◌+◌, ◌≤◌, length, refl, ◌∙◌, subst, arith}
 use Rattle.declarations.proofs.Words.{word-ends}
 use Rattle.declarations.specs.Lines.{Unknown}
 use Rattle.kinds.specs.Model.{kinds_of}

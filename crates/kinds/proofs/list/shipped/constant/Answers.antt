@@ -1,6 +1,6 @@
 use Rattle.std.proofs.Common.{refl, arith}
 use lib.Count.{count_trailing_zeros}
-use Rattle.declarations.specs.Declarations.{among, all_below, follow_on}
+use Rattle.declarations.specs.Declarations.{all_below, follow_on}
 use Rattle.declarations.specs.Names.{all_name, listed}
 use Rattle.declarations.specs.Rows.{add_rows, mask_of, bit, meets_all, closed_to}
 use Rattle.kinds.proofs.list.shipped.constant.Goals as goal

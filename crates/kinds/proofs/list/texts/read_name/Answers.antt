@@ -1,8 +1,6 @@
 use native.Mathlib.Nat.{sub-zero}
-use Rattle.std.proofs.Common.{take, Some, None, subst}
+use Rattle.std.proofs.Common.{take, Some, None}
 use Rattle.orders.proofs.Singles.{none_back, some_back, some_taken}
-use Rattle.declarations.specs.Lines.{Unknown}
-use Rattle.declarations.specs.Declarations.{name_of}
 use Rattle.declarations.proofs.Named.{single, reads_name, reads_none}
 use Rattle.kinds.specs.Lists.{listing, list_texts}
 use Rattle.kinds.specs.Model.{Finds}

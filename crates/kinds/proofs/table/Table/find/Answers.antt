@@ -1,4 +1,4 @@
-use Rattle.std.proofs.Common.{◌≡◌, ◌<◌, ◌≤◌, length, sym, ◌∙◌, subst, arith, rules, below_more}
+use Rattle.std.proofs.Common.{◌<◌, ◌≤◌, length, sym, ◌∙◌, subst, arith, rules, below_more}
 use Rattle.std.proofs.lemmas.Bool.{both_ways}
 use Rattle.declarations.proofs.Sound.{not_listed, listed_at}
 use Rattle.declarations.specs.Lines.{Known}

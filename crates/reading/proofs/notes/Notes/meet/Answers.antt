@@ -1,4 +1,4 @@
-use Rattle.std.proofs.Common.{◌≡◌, ltb, refl, ap, ◌∙◌, subst, arith}
+use Rattle.std.proofs.Common.{refl, ap, ◌∙◌, arith}
 use Rattle.declarations.specs.Names.{listed}
 use Rattle.grammar.specs.Told.{index}
 use Rattle.reading.specs.Notes.{noted, part}

@@ -1,4 +1,4 @@
-use Rattle.std.proofs.Common.{◌≡◌, suc, ◌+◌, ◌<◌, false, [], length, replicate, Some, Ok, sym, ap, ◌∙◌, subst, add-one, arith}
+use Rattle.std.proofs.Common.{suc, ◌+◌, [], length, Some, Ok, subst, add-one, arith}
 use Rattle.std.proofs.lemmas.Result.{err_from_is_err_and}
 use Rattle.features.specs.Model.{feature_names}
 use Rattle.reading.specs.declared.reader.Head.TheVariants.{Described}

@@ -1,8 +1,7 @@
-use Rattle.std.proofs.Common.{◌≡◌, ◌+◌, [], ◌∷◌, ◌++◌, length, sym, refl, ap, ◌∙◌, subst, arith}
+use Rattle.std.proofs.Common.{sym, ap, ◌∙◌}
 use Rattle.std.proofs.lemmas.Result.{err_from_is_err_and}
 use Rattle.std.proofs.lemmas.Bool.{le-leb}
 use Rattle.declarations.specs.Names.{letter}
-use Rattle.reading.specs.Reading.{Spans}
 use Rattle.reading.proofs.Featuring.{no_byte, no_letter, feature_long, feature_lawful, feature_here}
 use Rattle.reading.proofs.Marking.{byte_here, byte_none}
 use Rattle.reading.proofs.Spanning.{spans_join}

@@ -1,11 +1,8 @@
-use Rattle.std.proofs.Common.{◌≡◌, None, sym, refl, ap, ◌∙◌, arith}
+use Rattle.std.proofs.Common.{sym, ap, ◌∙◌, arith}
 use Rattle.grammar.specs.Words.{capital}
 use Rattle.orders.specs.Texts.{text_byte}
-use Rattle.reading.specs.Links.{linked}
-use Rattle.reading.specs.Notes.{noted}
-use Rattle.reading.proofs.Describing.{no_term, no_front, unnamed}
+use Rattle.reading.proofs.Describing.{no_term, no_front}
 use Rattle.reading.proofs.Marking.{byte_here, byte_none}
-use Rattle.reading.proofs.Spanning.{spans-none}
 use Rattle.reading.proofs.reader.Reader.head.Goals as goal
 
 pub returns-in_default : goal.returns-in_default

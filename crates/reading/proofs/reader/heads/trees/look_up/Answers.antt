@@ -1,4 +1,4 @@
-use Rattle.std.proofs.Common.{◌≡◌, ◌<◌, length, sym, ap, ◌∙◌, subst, rules}
+use Rattle.std.proofs.Common.{◌<◌, length, sym, ◌∙◌, subst, rules}
 use Rattle.features.specs.Model.{feature_names}
 use Rattle.reading.specs.Reading.{LooksUp}
 use Rattle.reading.proofs.Looking.{looked_up, not_found}
