@@ -99,6 +99,6 @@ fn pairs_of_pairs_are_orders_too(rt: HostRuntime) -> Result<(), Fail> {
         return Err(Fail::new("no common kind"));
     };
     assert_eq!(rt; order.write(both, &mut memory), 38);
-    assert!(rt; &memory[0..38] == b"returned_dd/0..0/3..5/returned_dd/1..1");
+    assert!(rt; &memory[0..38] == b"returned_dd/0..0/3..5/returned_dd/1..1".as_slice());
     Ok(())
 }
