@@ -3,7 +3,7 @@ use Rattle.std.specs.Prelude.{◌≡◌, ℕ, suc, ◌^◌, ◌<◌, true, List,
 use Rattle.std.proofs.Common.{inl, inr, arith}
 use Rattle.std.specs.Int.{IsInRange}
 use Rattle.std.specs.Fmt.{signed_decimal}
-use Rattle.std.specs.List.{AllByRecursion as All}
+use Rattle.std.specs.List.{AllByRecursion}
 use Rattle.std.proofs.lemmas.Int.{ints}
 use Rattle.std.proofs.lemmas.Bool.{le-leb, and_from, or_left, or_right, cases_Bool, cond-true, cond-false}
 use Rattle.std.proofs.lemmas.List.{length-append}
@@ -17,7 +17,7 @@ use Rattle.bands.specs.Rules.{ends}
 use Rattle.bands.specs.Texts.{text, written}
 
 abbrev pub Letters : List ℕ → Type 0
-Letters t = All (λ b. part_byte b ≡ true) t
+Letters t = AllByRecursion (λ b. part_byte b ≡ true) t
 
 digit_letter : (c : ℕ) → IsInRange 48 57 c → part_byte c ≡ true
 digit_letter c h = or_right _ _ (or_left _ _ (and_from _ _ (le-leb 48 c h.0) (le-leb c 57 h.1)))

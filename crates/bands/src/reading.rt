@@ -1,6 +1,6 @@
 // Reading a band: digits, amounts with their sign, and the band whose text stands first.
 ghost use Rattle.std.specs.Prelude.{◌≡◌, ℕ, ◌≤◌, true, List, ◌∷◌, ◌++◌, length, take, drop, Some};
-ghost use Rattle.std.specs.List.{AllByRecursion as All};
+ghost use Rattle.std.specs.List.{AllByRecursion};
 ghost use Rattle.orders.specs.Texts.{Stops, Stopped, Taken};
 ghost use Rattle.bands.specs.Letters.{texts};
 ghost use Rattle.bands.specs.Texts.{ReadsText, ReadsNatural, ReadsAmount, NoDigit};
@@ -13,7 +13,7 @@ use orders::texts::stop;
 // How many digits stand first.
 fn count(bytes: &[u8]) -> usize
     ensures within { result ≤ length bytes.now }
-    ensures before { All (λ b. is_ascii_digit b ≡ true) (take result bytes.now) }
+    ensures before { AllByRecursion (λ b. is_ascii_digit b ≡ true) (take result bytes.now) }
     ensures after { NoDigit (drop result bytes.now) }
 {
     for (i, byte) in bytes.iter().enumerate() {
@@ -27,7 +27,7 @@ fn count(bytes: &[u8]) -> usize
 // The number that up to 13 digits write.
 fn number(digits: &[u8]) -> u64
     requires short { length digits.now ≤ 13 }
-    requires digits { All (λ b. is_ascii_digit b ≡ true) digits.now }
+    requires digits { AllByRecursion (λ b. is_ascii_digit b ≡ true) digits.now }
     ensures { result ≡ digits_value 10 digits.now }
 {
     let mut n = 0;

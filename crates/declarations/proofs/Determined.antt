@@ -1,6 +1,6 @@
 -- A line has one outcome: a lawful line has one reading, and an accepted line is refused for nothing.
 use Rattle.std.proofs.Common.{◌≡◌, ℕ, ◌+◌, ◌<◌, ◌≤◌, Bool, true, false, not, ◌&&◌, ltb, leb, List, [], ◌∷◌, ◌++◌, length, get_or, Ok, Err, Result, sym, refl, ap, ◌∙◌, subst, ap₂, inl, inr, arith}
-use Rattle.std.specs.List.{AllByRecursion as All}
+use Rattle.std.specs.List.{AllByRecursion}
 use Rattle.std.proofs.lemmas.List.{append_cancel_left, get_or_at}
 use Rattle.std.proofs.lemmas.Bool.{and_parts, both_ways, ltb-true, leb-true, not-true, cases_lt}
 use Rattle.orders.proofs.Fronts.{Ends, same_fronts}
@@ -12,12 +12,12 @@ use Rattle.declarations.specs.Declarations.{Declaration, names}
 use Rattle.declarations.specs.Lines.{tail, Line, TooMuch, Known, Unknown, WrongWord, numbers, Accepts, Refuses, Declares}
 use Rattle.declarations.proofs.Words.{letter-name, blank_apart, front_at}
 
-all-bytes : (bs : List ℕ) → all_name bs ≡ true → All (λ b. name_byte b ≡ true) bs
+all-bytes : (bs : List ℕ) → all_name bs ≡ true → AllByRecursion (λ b. name_byte b ≡ true) bs
 unfolding all_name
 all-bytes [] a = tt
 all-bytes (b ∷ bs) a = let p = and_parts (name_byte b) _ a in (p.0, all-bytes bs p.1)
 
-name_bytes_of : (w : List ℕ) → is_name w ≡ true → All (λ b. name_byte b ≡ true) w
+name_bytes_of : (w : List ℕ) → is_name w ≡ true → AllByRecursion (λ b. name_byte b ≡ true) w
 name_bytes_of [] n = absurd (both_ways false refl n)
 name_bytes_of (b ∷ bs) n = let p = and_parts (letter b) _ n in (letter-name b p.0, all-bytes bs p.1)
 
@@ -34,7 +34,7 @@ same_word v w vs ws n m e =
 same_rest : (v w : List ℕ) (xs ys : List ℕ) → v ≡ w → v ++ xs ≡ w ++ ys → xs ≡ ys
 same_rest v w xs ys e h = append_cancel_left w xs ys (ap (λ z. z ++ xs) (sym e) ∙ h)
 
-same-tail : (vs ws : List (List ℕ)) → All (λ w. is_name w ≡ true) vs → All (λ w. is_name w ≡ true) ws → tail vs ≡ tail ws → vs ≡ ws
+same-tail : (vs ws : List (List ℕ)) → AllByRecursion (λ w. is_name w ≡ true) vs → AllByRecursion (λ w. is_name w ≡ true) ws → tail vs ≡ tail ws → vs ≡ ws
 unfolding tail
 same-tail [] [] a b e = refl
 same-tail [] (w ∷ ws) a b e = absurd (let z : ◌≡◌ {A = ℕ} 0 1 = cc in omega arith)
@@ -51,7 +51,7 @@ module _ (line : List ℕ) (l m : Line line) where
   pub one_wider : l.wider ≡ m.wider
   one_wider = same-tail l.wider m.wider l.each m.each (same_rest l.name m.name (tail l.wider) (tail m.wider) one_name (sym l.whole ∙ m.whole))
 
-known-within : (ds : List Declaration) (done : List (List ℕ)) (w : List ℕ) (more : List (List ℕ)) → All (Known ds) (done ++ w ∷ more) → Known ds w
+known-within : (ds : List Declaration) (done : List (List ℕ)) (w : List ℕ) (more : List (List ℕ)) → AllByRecursion (Known ds) (done ++ w ∷ more) → Known ds w
 known-within ds [] w more a = a.0
 known-within ds (v ∷ done) w more a = known-within ds done w more a.1
 
@@ -65,7 +65,7 @@ module _ (limit : ℕ) (ds : List Declaration) (line : List ℕ) (d : Declaratio
         | inl k ↦ both_ways _ a.fresh (subst (Known ds) (one_name line l a.words) k.0)
         | inr u ↦
             let f = u.1 in
-            both_ways _ f.unknown (known-within ds f.done f.word f.more (subst (All (Known ds)) (sym (one_wider line l a.words) ∙ f.split) a.known))
+            both_ways _ f.unknown (known-within ds f.done f.word f.more (subst (AllByRecursion (Known ds)) (sym (one_wider line l a.words) ∙ f.split) a.known))
       ]
 
   -- an accepted line is accepted, and declares this
@@ -79,7 +79,7 @@ module _ (limit : ℕ) (ds : List Declaration) (line : List ℕ) (d : Declaratio
   accepted after (Err e) h = absurd (not_refused e h.0)
 
 -- words that are known up to the first unknown one
-same-done : (ds : List Declaration) (xs ys : List (List ℕ)) (v w : List ℕ) (vs ws : List (List ℕ)) → All (Known ds) xs → All (Known ds) ys → Unknown ds v → Unknown ds w → xs ++ v ∷ vs ≡ ys ++ w ∷ ws → xs ≡ ys
+same-done : (ds : List Declaration) (xs ys : List (List ℕ)) (v w : List ℕ) (vs ws : List (List ℕ)) → AllByRecursion (Known ds) xs → AllByRecursion (Known ds) ys → Unknown ds v → Unknown ds w → xs ++ v ∷ vs ≡ ys ++ w ∷ ws → xs ≡ ys
 same-done ds [] [] v w vs ws a b u x e = refl
 same-done ds [] (y ∷ ys) v w vs ws a b u x e = let first : v ≡ y = cc in absurd (both_ways _ u (subst (Known ds) (sym first) b.0))
 same-done ds (z ∷ xs) [] v w vs ws a b u x e = let first : z ≡ w = cc in absurd (both_ways _ x (subst (Known ds) first a.0))
@@ -135,12 +135,12 @@ accepts limit ds name ws =
     && (leb (length (name ++ tail ws)) 1000
     && (leb (length name) 24 && (ltb (length ds) limit && (not (listed name (names ds)) && all_listed ws (names ds)))))))
 
-names-all : (ws : List (List ℕ)) → all-names ws ≡ true → All (λ w. is_name w ≡ true) ws
+names-all : (ws : List (List ℕ)) → all-names ws ≡ true → AllByRecursion (λ w. is_name w ≡ true) ws
 unfolding all-names
 names-all [] h = tt
 names-all (w ∷ ws) h = let p = and_parts (is_name w) _ h in (p.0, names-all ws p.1)
 
-listed-all : (ds : List Declaration) (ws : List (List ℕ)) → all_listed ws (names ds) ≡ true → All (Known ds) ws
+listed-all : (ds : List Declaration) (ws : List (List ℕ)) → all_listed ws (names ds) ≡ true → AllByRecursion (Known ds) ws
 unfolding all_listed
 listed-all ds [] h = tt
 listed-all ds (w ∷ ws) h = let p = and_parts (listed w (names ds)) _ h in (p.0, listed-all ds ws p.1)

@@ -1,6 +1,6 @@
 -- The texts of declared kinds: their names.
 use Rattle.std.proofs.Common.{◌≡◌, ℕ, ◌<◌, ◌≤◌, true, false, ◌&&◌, eqb, ltb, leb, List, [], ◌∷◌, length, Some, None, Option, sym, refl, ap, ◌∙◌, subst, inl, inr, arith}
-use Rattle.std.specs.List.{AllByRecursion as All}
+use Rattle.std.specs.List.{AllByRecursion}
 use Rattle.std.proofs.ByRecursion.{All-weaker}
 use Rattle.std.proofs.lemmas.Bool.{and_parts, or_cases, or_left, or_right, cases_Bool, cond-true, cond-false, ltb-true, lt-ltb, le-ltb, not_from_true, both_ways}
 use Rattle.orders.specs.Texts.{Texts, IsText, part_byte, text_byte, stops}
@@ -20,12 +20,12 @@ name-part b h =
       ]
     ]
 
-all_parts : (bs : List ℕ) → all_name bs ≡ true → All (λ b. part_byte b ≡ true) bs
+all_parts : (bs : List ℕ) → all_name bs ≡ true → AllByRecursion (λ b. part_byte b ≡ true) bs
 unfolding all_name
 all_parts [] a = tt
 all_parts (b ∷ bs) a = let p = and_parts (name_byte b) _ a in (name-part b p.0, all_parts bs p.1)
 
-name_parts : (w : List ℕ) → is_name w ≡ true → All (λ b. part_byte b ≡ true) w
+name_parts : (w : List ℕ) → is_name w ≡ true → AllByRecursion (λ b. part_byte b ≡ true) w
 name_parts [] n = absurd (both_ways false refl n)
 name_parts (b ∷ bs) n = let p = and_parts (letter b) _ n in (name-part b (letter-name b p.0), all_parts bs p.1)
 
@@ -46,8 +46,8 @@ text-name ds k t e =
     ]
 
 module _ (ds : List Declaration) (ok : sound ds ≡ true) where
-  pub parts_of : (k : ℕ) (t : List ℕ) → name_text ds k ≡ Some t → All (λ b. part_byte b ≡ true) t
-  parts_of k t e = let (l, is) = text-name ds k t e in subst (All (λ b. part_byte b ≡ true)) is (name_parts (name_of ds k) (is_named ds ok k l))
+  pub parts_of : (k : ℕ) (t : List ℕ) → name_text ds k ≡ Some t → AllByRecursion (λ b. part_byte b ≡ true) t
+  parts_of k t e = let (l, is) = text-name ds k t e in subst (AllByRecursion (λ b. part_byte b ≡ true)) is (name_parts (name_of ds k) (is_named ds ok k l))
 
   pub text-lawful : (k : ℕ) (t : List ℕ) → name_text ds k ≡ Some t → IsText t
   text-lawful k t e =
@@ -58,7 +58,7 @@ module _ (ds : List Declaration) (ok : sound ds ≡ true) where
   abbrev pub texts_of : Texts ℕ
   texts_of = record { text = name_text ds; lawful = text-lawful }
 
-  pub single : (k : ℕ) (t : List ℕ) → name_text ds k ≡ Some t → All (λ b. stops b ≡ false) t
+  pub single : (k : ℕ) (t : List ℕ) → name_text ds k ≡ Some t → AllByRecursion (λ b. stops b ≡ false) t
   single k t e = All-weaker (λ b. part_byte b ≡ true) (λ b. stops b ≡ false) (λ b h. not_from_true (part_byte b) h) t (parts_of k t e)
 
   pub reads_name : (k : ℕ) (w : List ℕ) → k < length ds → name_of ds k ≡ w → ReadsWhole texts_of w (Some k)

@@ -1,6 +1,6 @@
 -- Going over a line byte by byte decides its grammar.
 use Rattle.std.proofs.Common.{◌≡◌, ℕ, ◌+◌, ◌<◌, ◌≤◌, true, false, eqb, List, [], ◌∷◌, ◌++◌, length, get_or, take, Some, None, Option, sym, refl, ap, ◌∙◌, inl, inr, arith}
-use Rattle.std.specs.List.{AllByRecursion as All}
+use Rattle.std.specs.List.{AllByRecursion}
 use Rattle.std.proofs.lemmas.List.{take_more, take_all}
 use Rattle.std.proofs.lemmas.Bool.{and_parts, and_from, both_ways, cases_Bool, eqb-true, cond-true, cond-false}
 use Rattle.declarations.specs.declared.line.Part.{Part}
@@ -16,9 +16,9 @@ runs p (b ∷ bs) = elim (next_part p b) [ Some q ↦ runs q bs | None ↦ None 
 -- what is still to come from a place in the line, to its lawful end
 abbrev Rest : Part → List ℕ → Type 0
 Rest Start bytes = Line bytes
-Rest Name bytes = (w : List ℕ) × (ws : List (List ℕ)) × (all_name w ≡ true) × All (λ v. is_name v ≡ true) ws × (0 < length ws) × (bytes ≡ w ++ tail ws)
-Rest Blank bytes = (w : List ℕ) × (ws : List (List ℕ)) × (is_name w ≡ true) × All (λ v. is_name v ≡ true) ws × (bytes ≡ w ++ tail ws)
-Rest Wider bytes = (w : List ℕ) × (ws : List (List ℕ)) × (all_name w ≡ true) × All (λ v. is_name v ≡ true) ws × (bytes ≡ w ++ tail ws)
+Rest Name bytes = (w : List ℕ) × (ws : List (List ℕ)) × (all_name w ≡ true) × AllByRecursion (λ v. is_name v ≡ true) ws × (0 < length ws) × (bytes ≡ w ++ tail ws)
+Rest Blank bytes = (w : List ℕ) × (ws : List (List ℕ)) × (is_name w ≡ true) × AllByRecursion (λ v. is_name v ≡ true) ws × (bytes ≡ w ++ tail ws)
+Rest Wider bytes = (w : List ℕ) × (ws : List (List ℕ)) × (all_name w ≡ true) × AllByRecursion (λ v. is_name v ≡ true) ws × (bytes ≡ w ++ tail ws)
 
 abbrev onward : Option Part → List ℕ → Option Part
 onward (Some p) bs = runs p bs
@@ -62,17 +62,17 @@ run_word (b ∷ bs) more n =
     let q = and_parts (letter b) _ n in
     runs-step Blank b (bs ++ more) ∙ ap (λ o. onward o (bs ++ more)) (cond-true _ (Some Wider) None q.0) ∙ stay_wider bs more q.1
 
-run_wider : (ws : List (List ℕ)) → All (λ w. is_name w ≡ true) ws → runs Wider (tail ws) ≡ Some Wider
+run_wider : (ws : List (List ℕ)) → AllByRecursion (λ w. is_name w ≡ true) ws → runs Wider (tail ws) ≡ Some Wider
 unfolding runs tail
 run_wider [] a = refl
 run_wider (w ∷ ws) a = run_word w (tail ws) a.0 ∙ run_wider ws a.1
 
-run_tail : (ws : List (List ℕ)) → All (λ w. is_name w ≡ true) ws → 0 < length ws → runs Name (tail ws) ≡ Some Wider
+run_tail : (ws : List (List ℕ)) → AllByRecursion (λ w. is_name w ≡ true) ws → 0 < length ws → runs Name (tail ws) ≡ Some Wider
 unfolding runs tail
 run_tail [] a l = absurd (omega arith)
 run_tail (w ∷ ws) a l = run_word w (tail ws) a.0 ∙ run_wider ws a.1
 
-run_line : (w : List ℕ) (ws : List (List ℕ)) → is_name w ≡ true → All (λ v. is_name v ≡ true) ws → 0 < length ws → runs Start (w ++ tail ws) ≡ Some Wider
+run_line : (w : List ℕ) (ws : List (List ℕ)) → is_name w ≡ true → AllByRecursion (λ v. is_name v ≡ true) ws → 0 < length ws → runs Start (w ++ tail ws) ≡ Some Wider
 run_line [] ws n a l = absurd (both_ways false refl n)
 run_line (b ∷ bs) ws n a l =
     let q = and_parts (letter b) _ n in

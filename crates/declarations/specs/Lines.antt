@@ -5,7 +5,7 @@
 -- Refused with 2: `rent`, at 4, since it ends too early; `rent  any`, at 5; `Rent any`, at 0; `rent any `, at 9.
 -- Refused with 3: `any any`, at 0, since `any` is declared; `rent any loan`, at 9, where `loan` is not.
 use Rattle.std.specs.Prelude.{◌≡◌, ℕ, ◌+◌, ◌<◌, ◌≤◌, true, false, ◌⊎◌, List, [], ◌∷◌, ◌++◌, length, take, Some, None, Ok, Err, filter, Option, Result, ◌≢◌, slice_index}
-use Rattle.std.specs.List.{range_with_len, AllByRecursion as All}
+use Rattle.std.specs.List.{range_with_len, AllByRecursion}
 use Rattle.refusals.specs.declared.Refusal.{Refusal}
 use Rattle.refusals.specs.Places as places
 use Rattle.refusals.specs.Table.{row}
@@ -22,7 +22,7 @@ pub record Line (line : List ℕ) : Type 0 where
   pub name : List ℕ
   pub wider : List (List ℕ)
   pub named : is_name name ≡ true
-  pub each : All (λ w. is_name w ≡ true) wider
+  pub each : AllByRecursion (λ w. is_name w ≡ true) wider
   pub some : 0 < length wider
   pub whole : line ≡ name ++ tail wider
 
@@ -85,7 +85,7 @@ pub record FirstUnknown (ds : List Declaration) (at : ℕ) (ws : List (List ℕ)
   pub word : List ℕ
   pub more : List (List ℕ)
   pub split : ws ≡ done ++ word ∷ more
-  pub known : All (Known ds) done
+  pub known : AllByRecursion (Known ds) done
   pub unknown : Unknown ds word
   pub place : p ≡ at + length (tail done) + 1
 
@@ -103,7 +103,7 @@ pub record Accepts (limit : ℕ) (ds : List Declaration) (line : List ℕ) (d : 
   pub words : Line line
   pub within : TooMuch limit ds line → ⊥
   pub fresh : Unknown ds words.name
-  pub known : All (Known ds) words.wider
+  pub known : AllByRecursion (Known ds) words.wider
   pub name : d.name ≡ words.name
   pub wider : d.wider ≡ numbers ds words.wider
 

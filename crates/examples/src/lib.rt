@@ -4,6 +4,8 @@
 #[cfg(test)]
 mod declared;
 #[cfg(test)]
+mod descriptions;
+#[cfg(test)]
 mod lists;
 #[cfg(test)]
 mod narrowed;
@@ -11,5 +13,3 @@ mod narrowed;
 mod pairs;
 #[cfg(test)]
 mod printed;
-#[cfg(test)]
-mod terms;

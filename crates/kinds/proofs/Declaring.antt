@@ -1,6 +1,6 @@
 -- Declaring a line: which refusal it has, or what it declares.
 use Rattle.std.proofs.Common.{◌≡◌, ℕ, ◌-◌, ◌<◌, ◌≤◌, true, List, [], ◌∷◌, ◌++◌, length, get_or, take, drop, Ok, Err, filter, sym, refl, ap, ◌∙◌, subst, inl, inr, arith, length-take}
-use Rattle.std.specs.List.{range_with_len, AllByRecursion as All}
+use Rattle.std.specs.List.{range_with_len, AllByRecursion}
 use Rattle.std.specs.Str.{bytes_eq}
 use Rattle.std.proofs.lemmas.Slice.Eq.{bytes_eq-Decides}
 use Rattle.std.proofs.lemmas.List.{take-append-drop, take_at, drop_at, get_or-take, get_or_at, length-take-le}
@@ -80,7 +80,7 @@ module _ (ds : List Declaration) (n : ℕ) (size : length ds ≡ n) (ws : List (
   first-known : (w : ℕ) × (w < n) × (bit mask w ≡ true)
   first-known = go ws some g.0 g.2
     where
-      go : (ws : List (List ℕ)) → 0 < length ws → All (Known ds) ws → ((k : ℕ) → k < length ds → bit mask k ≡ listed (name_of ds k) ws) → (w : ℕ) × (w < n) × (bit mask w ≡ true)
+      go : (ws : List (List ℕ)) → 0 < length ws → AllByRecursion (Known ds) ws → ((k : ℕ) → k < length ds → bit mask k ≡ listed (name_of ds k) ws) → (w : ℕ) × (w < n) × (bit mask w ≡ true)
       go [] s a b = absurd (omega arith)
       go (w ∷ ws) s a b =
           let (k, l, e) = listed_is ds w a.0 in

@@ -1,7 +1,7 @@
 -- Gathering the wider kinds that a line names.
 use Rattle.std.proofs.Common.{◌≡◌, ℕ, ◌+◌, ◌-◌, ◌*◌, ◌%◌, ◌^◌, ◌<◌, ◌≤◌, Bool, true, false, ◌||◌, eqb, List, [], ◌∷◌, ◌++◌, length, take, drop, Ok, sym, refl, ap, ◌∙◌, subst, inl, inr, append_assoc, arith, length-append, length-drop}
 use lib.Bits.{bit_or, or_lt}
-use Rattle.std.specs.List.{AllByRecursion as All}
+use Rattle.std.specs.List.{AllByRecursion}
 use Rattle.std.specs.Str.{bytes_eq}
 use Rattle.std.proofs.lemmas.Nat.{pow_pos, pow_below, one_shl}
 use Rattle.std.proofs.ByRecursion.{All-push}
@@ -51,14 +51,14 @@ pub record Progress (ds : List Declaration) (at : ℕ) (ws : List (List ℕ)) (l
   pub done : List (List ℕ)
   pub more : List (List ℕ)
   pub split : ws ≡ done ++ more
-  pub each : All (λ w. is_name w ≡ true) more
+  pub each : AllByRecursion (λ w. is_name w ≡ true) more
   pub rest : drop end line ≡ tail more
   pub place : end ≡ at + length (tail done)
-  pub known : All (Known ds) done
+  pub known : AllByRecursion (Known ds) done
   pub below : mask < 2 ^ length ds
   pub bits : (k : ℕ) → k < length ds → bit mask k ≡ listed (name_of ds k) done
 
-pub starts : (ds : List Declaration) (at : ℕ) (ws : List (List ℕ)) (line : List ℕ) → All (λ w. is_name w ≡ true) ws → drop at line ≡ tail ws → Progress ds at ws line at 0
+pub starts : (ds : List Declaration) (at : ℕ) (ws : List (List ℕ)) (line : List ℕ) → AllByRecursion (λ w. is_name w ≡ true) ws → drop at line ≡ tail ws → Progress ds at ws line at 0
 unfolding tail listed
 starts ds at ws line a e =
     record {
@@ -79,7 +79,7 @@ pub record Next (ds : List Declaration) (at : ℕ) (ws : List (List ℕ)) (line 
   pub others : List (List ℕ)
   pub is : p.more ≡ word ∷ others
   pub named : is_name word ≡ true
-  pub each : All (λ w. is_name w ≡ true) others
+  pub each : AllByRecursion (λ w. is_name w ≡ true) others
   pub rest : drop (end + 1) line ≡ word ++ tail others
 
 module _ (ds : List Declaration) (at : ℕ) (ws : List (List ℕ)) (line : List ℕ) (end mask : ℕ) (p : Progress ds at ws line end mask) where
@@ -87,7 +87,7 @@ module _ (ds : List Declaration) (at : ℕ) (ws : List (List ℕ)) (line : List 
   unfolding tail
   next_word l = go p.more refl p.each p.rest
     where
-      go : (more : List (List ℕ)) → p.more ≡ more → All (λ w. is_name w ≡ true) more → drop end line ≡ tail more → Next ds at ws line end mask p
+      go : (more : List (List ℕ)) → p.more ≡ more → AllByRecursion (λ w. is_name w ≡ true) more → drop end line ≡ tail more → Next ds at ws line end mask p
       go [] e a r = absurd (omega (arith, length-drop end line, ap length r))
       go (w ∷ others) e a r =
           record {
@@ -110,7 +110,7 @@ module _ (ds : List Declaration) (at : ℕ) (ws : List (List ℕ)) (line : List 
   pub gathered : length line ≤ end → Gathers ds at ws (Ok mask)
   gathered l =
       let e = finishes l in
-      (subst (All (Known ds)) e p.known, p.below, λ k h. p.bits k h ∙ ap (listed (name_of ds k)) e)
+      (subst (AllByRecursion (Known ds)) e p.known, p.below, λ k h. p.bits k h ∙ ap (listed (name_of ds k)) e)
 
   module _ (n : Next ds at ws line end mask p) where
     pub word_is : (stop : ℕ) → stop ≡ end + 1 + length n.word → take (stop - (end + 1)) (drop (end + 1) line) ≡ n.word

@@ -1,6 +1,6 @@
 -- What the calls on declared kinds answer.
 use Rattle.std.specs.Prelude.{◌≡◌, ℕ, ◌^◌, ◌<◌, true, false, List, [], ◌∷◌, length, Some, None, Ok, Err, Option, Result}
-use Rattle.std.specs.List.{AllByRecursion as All}
+use Rattle.std.specs.List.{AllByRecursion}
 use Rattle.refusals.specs.declared.Refusal.{Refusal}
 use Rattle.refusals.specs.Table.{row}
 use Rattle.declarations.specs.Names.{listed}
@@ -27,7 +27,7 @@ Fresh ds word (Err e) = Known ds word × (row e ≡ record { number = 3; values 
 
 -- the kinds that the words after `at` name, as bits; or the first word that names none, refused with 3
 abbrev pub Gathers : List Declaration → ℕ → List (List ℕ) → Result ℕ Refusal → Type 0
-Gathers ds at ws (Ok mask) = All (Known ds) ws × (mask < 2 ^ length ds) × ((k : ℕ) → k < length ds → bit mask k ≡ listed (name_of ds k) ws)
+Gathers ds at ws (Ok mask) = AllByRecursion (Known ds) ws × (mask < 2 ^ length ds) × ((k : ℕ) → k < length ds → bit mask k ≡ listed (name_of ds k) ws)
 Gathers ds at ws (Err e) = (p : ℕ) × FirstUnknown ds at ws p × (row e ≡ record { number = 3; values = p ∷ [] })
 
 -- a line's name and wider kinds, which may be declared as the kind `count`; or the line's refusal

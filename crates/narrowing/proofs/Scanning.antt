@@ -1,6 +1,6 @@
 -- Going over a line byte by byte decides its grammar.
 use Rattle.std.proofs.Common.{◌≡◌, ℕ, ◌+◌, ◌<◌, ◌≤◌, true, eqb, List, [], ◌∷◌, ◌++◌, length, get_or, take, Some, None, Option, sym, refl, ap, ◌∙◌, inl, inr, arith}
-use Rattle.std.specs.List.{AllByRecursion as All}
+use Rattle.std.specs.List.{AllByRecursion}
 use Rattle.std.proofs.lemmas.List.{take_more, take_all}
 use Rattle.std.proofs.lemmas.Bool.{cases_Bool, eqb-true, cond-true, cond-false}
 use Rattle.orders.specs.Texts.{text_byte, IsText}
@@ -10,7 +10,7 @@ use Rattle.narrowing.specs.Lines.{Line, GoesOn, Breaks}
 use Rattle.narrowing.specs.Scanner.{next_part}
 
 abbrev pub AllText : List ℕ → Type 0
-AllText bytes = All (λ b. text_byte b ≡ true) bytes
+AllText bytes = AllByRecursion (λ b. text_byte b ≡ true) bytes
 
 -- where the bytes lead from a part of the line
 unfoldable pub runs : Part → List ℕ → Option Part

@@ -1,6 +1,6 @@
 -- Orders whose texts have no solidus: the text is what stands before the first stop.
 use Rattle.std.proofs.Common.{◌≡◌, ℕ, true, false, List, [], ◌∷◌, ◌++◌, length, take, drop, Some, None, Option, sym, refl, ap, ◌∙◌, arith}
-use Rattle.std.specs.List.{AllByRecursion as All}
+use Rattle.std.specs.List.{AllByRecursion}
 use Rattle.std.proofs.lemmas.List.{take-append-drop, length-take-le}
 use Rattle.std.proofs.lemmas.Bool.{false≢true}
 use Rattle.orders.specs.Texts.{Texts, Stops, Stopped, stops, Stands}
@@ -14,7 +14,7 @@ stops-ends : (bs : List ℕ) → Stops bs → Ends (λ b. stops b ≡ true) bs
 stops-ends [] h = tt
 stops-ends (b ∷ bs) h = h
 
-module _ {K : Type 0} (m : Texts K) (single : (k : K) (t : List ℕ) → m.text k ≡ Some t → All (λ b. stops b ≡ false) t) (bytes : List ℕ) (n : ℕ) (s : Stopped bytes n) where
+module _ {K : Type 0} (m : Texts K) (single : (k : K) (t : List ℕ) → m.text k ≡ Some t → AllByRecursion (λ b. stops b ≡ false) t) (bytes : List ℕ) (n : ℕ) (s : Stopped bytes n) where
   -- a text that stands first is what stands before the stop
   text_is : (k : K) (t rest : List ℕ) → m.text k ≡ Some t → Stops rest → bytes ≡ t ++ rest → take n bytes ≡ t
   text_is k t rest e stop whole =

@@ -1,6 +1,6 @@
 -- The texts of kinds: which bytes they have, where they stop, what reading and writing one says.
 use Rattle.std.specs.Prelude.{◌≡◌, ℕ, ◌<◌, ◌≤◌, Bool, true, false, not, ◌&&◌, ◌||◌, List, [], ◌∷◌, ◌++◌, length, take, drop, Some, None, Option, ◌==◌, nat_le}
-use Rattle.std.specs.List.{AllByRecursion as All}
+use Rattle.std.specs.List.{AllByRecursion}
 
 -- a lower-case letter, a digit, an underscore, a hyphen or a point
 abbrev pub part_byte : ℕ → Bool
@@ -11,7 +11,7 @@ abbrev pub text_byte : ℕ → Bool
 text_byte b = part_byte b || b == 47
 
 abbrev pub IsText : List ℕ → Type 0
-IsText t = (0 < length t) × All (λ b. text_byte b ≡ true) t
+IsText t = (0 < length t) × AllByRecursion (λ b. text_byte b ≡ true) t
 
 -- a solidus, or a byte outside texts
 abbrev pub stops : ℕ → Bool
@@ -25,7 +25,7 @@ Stops (b ∷ bs) = stops b ≡ true
 -- no text of a single part stops before n, and texts stop there
 pub record Stopped (bytes : List ℕ) (n : ℕ) : Type 0 where
   pub within : n ≤ length bytes
-  pub before : All (λ b. stops b ≡ false) (take n bytes)
+  pub before : AllByRecursion (λ b. stops b ≡ false) (take n bytes)
   pub after : Stops (drop n bytes)
 
 -- the first byte at which texts stop, or none before the end

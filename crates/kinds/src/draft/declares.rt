@@ -1,6 +1,6 @@
 // Declaring a kind.
 ghost use Rattle.std.specs.Prelude.{◌≡◌, ℕ, ◌+◌, ◌^◌, ◌<◌, true, List, [], ◌∷◌, ◌++◌, length, take, drop, is_err, if◌then◌else◌, Result, bit_and, bit_or, nat_eq};
-ghost use Rattle.std.specs.List.{AllByRecursion as All};
+ghost use Rattle.std.specs.List.{AllByRecursion};
 ghost use Rattle.refusals.specs.declared.Refusal.{Refusal};
 ghost use Rattle.declarations.specs.Declarations.{Declaration, follows};
 ghost use Rattle.declarations.specs.Held.{name_bytes};
@@ -64,7 +64,7 @@ fn add(table: &mut Table, name: Name, wider: u64) -> usize
 
 // The wider kinds that a line names after its first `at` bytes, as bits.
 fn gather(table: &Table, line: &[u8], at: usize) -> Result<u64, Refusal>
-    ensures { (ws : List (List ℕ)) → All (λ w. is_name w ≡ true) ws → drop at line.now ≡ tail ws → Gathers (kinds_of table.now) at ws result }
+    ensures { (ws : List (List ℕ)) → AllByRecursion (λ w. is_name w ≡ true) ws → drop at line.now ≡ tail ws → Gathers (kinds_of table.now) at ws result }
 {
     let mut wider = 0;
     let mut end = at;
