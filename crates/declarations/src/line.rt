@@ -1,7 +1,7 @@
 // A line that declares a kind: its name, and then a blank and the name of a wider kind, once or more.
 ghost use Rattle.std.specs.Prelude.{◌≡◌};
 ghost use Rattle.declarations.specs.Names.{letter};
-ghost use Rattle.declarations.specs.Names.{name_byte as name-character};
+ghost use Rattle.declarations.specs.Names.{name_byte as name_character};
 ghost use Rattle.declarations.specs.Lines.{Scans, Scanned, NameEnd, FirstOutside, WordEnd, NextBlank};
 ghost use Rattle.declarations.specs.Scanner.{next_part};
 
@@ -22,7 +22,7 @@ pub fn is_letter(byte: u8) -> bool
 
 // A lower-case letter, a digit or an underscore.
 pub fn is_name_byte(byte: u8) -> bool
-    ensures { result ≡ name-character byte }
+    ensures { result ≡ name_character byte }
 {
     matches!(byte, b'a'..=b'z' | b'0'..=b'9' | b'_')
 }

@@ -10,7 +10,7 @@ use Rattle.declarations.specs.Rows.{rows_of, add_rows, mask_of, meets_all, close
 use Rattle.declarations.proofs.Determined.{all-names, all_listed, accepts_is, accepted}
 use Rattle.declarations.proofs.Grown.{rows_right}
 use Rattle.declarations.proofs.Ordered.{common_holds, common_not}
-use Rattle.kinds.specs.declared.list.List as closed-list
+use Rattle.kinds.specs.declared.list.List as closed_list
 use Rattle.kinds.specs.Lists.{listing, Closes}
 use Rattle.kinds.specs.Shipped.{shipped, shipped_lines}
 
@@ -52,7 +52,7 @@ unfolding add_rows mask_of meets_all closed_to count_trailing_zeros
 shipped-closed = refl
 
 -- the shipped kinds close
-pub closes : (before after : closed-list.List) (r : Result (Unit {0}) Refusal) → Closes shipped before after r → (r ≡ Ok tt) × (listing after ≡ shipped)
+pub closes : (before after : closed_list.List) (r : Result (Unit {0}) Refusal) → Closes shipped before after r → (r ≡ Ok tt) × (listing after ≡ shipped)
 closes before after (Ok u) h = (refl, h.0)
 closes before after (Err e) h =
     let (a, b, f, is) = h.0 in

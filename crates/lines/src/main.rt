@@ -3,7 +3,7 @@
 
 ghost use Rattle.std.specs.Prelude.{◌≡◌, [], ◌∷◌, ◌++◌, IfOk, codes, OnOk};
 ghost use Rattle.kinds.specs.Lists.{listing};
-ghost use Rattle.kinds.specs.Shipped.{shipped as shipped-kinds};
+ghost use Rattle.kinds.specs.Shipped.{shipped as shipped_kinds};
 ghost use Rattle.features.specs.Model.{feature_names};
 
 use anyhow::anyhow;
@@ -21,7 +21,7 @@ const STATEMENTS: usize = 399;
 
 // The order that the kinds are of: the shipped list and bands of amounts.
 fn amounts() -> Pair<List, Bands>
-    ensures { listing result.first ≡ shipped-kinds }
+    ensures { listing result.first ≡ shipped_kinds }
 {
     Pair {
         first: shipped(),

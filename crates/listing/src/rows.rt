@@ -1,6 +1,6 @@
 // The statements of a term as text.
 ghost use Rattle.std.specs.Prelude.{◌≡◌, ◌+◌, ◌++◌, drop, IfOk, decimal, OnOk};
-ghost use Rattle.grammar.specs.Lawful.{statements as statements-of};
+ghost use Rattle.grammar.specs.Lawful.{statements as statements_of};
 ghost use Rattle.features.specs.Model.{feature_names};
 ghost use Rattle.terms.specs.Terms.{said_of};
 ghost use Rattle.listing.specs.Shown.{variable_shown, kind_shown, feature_shown, statement_shown, row_shown, later_shown, said_shown};
@@ -108,7 +108,7 @@ fn put_later<O: WrittenOrder>(
     text: &mut Vec<u8>,
     heap: Global,
 ) -> Result<(), AllocError>
-    ensures { OnOk result (text.new.items ≡ text.old.items ++ later_shown (O.texts order.now) (feature_names features.now) 2 (drop 1 (statements-of (said_of term.now)))) }
+    ensures { OnOk result (text.new.items ≡ text.old.items ++ later_shown (O.texts order.now) (feature_names features.now) 2 (drop 1 (statements_of (said_of term.now)))) }
 {
     for i in 1..term.statements() {
         let statement = term.statement(i + 1).unwrap();
@@ -125,7 +125,7 @@ fn put_rows<O: WrittenOrder>(
     text: &mut Vec<u8>,
     heap: Global,
 ) -> Result<(), AllocError>
-    ensures { OnOk result (text.new.items ≡ text.old.items ++ said_shown (O.texts order.now) (feature_names features.now) (statements-of (said_of term.now))) }
+    ensures { OnOk result (text.new.items ≡ text.old.items ++ said_shown (O.texts order.now) (feature_names features.now) (statements_of (said_of term.now))) }
 {
     match term.statement(1) {
         Some(first) => {
@@ -144,7 +144,7 @@ pub fn said_text<O: WrittenOrder>(
     term: &Term<O::Kind>,
     heap: Global,
 ) -> Result<Vec<u8>, AllocError>
-    ensures { IfOk result (λ v. v.items ≡ said_shown (O.texts order.now) (feature_names features.now) (statements-of (said_of term.now))) }
+    ensures { IfOk result (λ v. v.items ≡ said_shown (O.texts order.now) (feature_names features.now) (statements_of (said_of term.now))) }
 {
     let mut text = Vec::new(heap);
     put_rows(order, features, term, &mut text, heap)?;

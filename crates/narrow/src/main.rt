@@ -3,7 +3,7 @@
 
 ghost use Rattle.std.specs.Prelude.{◌≡◌};
 ghost use Rattle.kinds.specs.Lists.{listing};
-ghost use Rattle.kinds.specs.Shipped.{shipped as shipped-kinds};
+ghost use Rattle.kinds.specs.Shipped.{shipped as shipped_kinds};
 
 use bands::order::Bands;
 use kinds::list::List;
@@ -14,7 +14,7 @@ use std::io::{BufRead, BufReader, Write};
 
 // The order that the kinds are of: the shipped list and bands of amounts.
 fn amounts() -> Pair<List, Bands>
-    ensures { listing result.first ≡ shipped-kinds }
+    ensures { listing result.first ≡ shipped_kinds }
 {
     Pair {
         first: shipped(),

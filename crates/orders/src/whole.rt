@@ -1,7 +1,7 @@
 // A text that is to be a kind's text from its first byte to its last.
 ghost use Rattle.std.specs.Prelude.{◌≡◌};
 ghost use Rattle.orders.specs.Whole.{KindOf};
-ghost use Rattle.orders.specs.Whole.{whole_kind as taken-whole};
+ghost use Rattle.orders.specs.Whole.{whole_kind as taken_whole};
 
 use crate::texts::WrittenOrder;
 
@@ -14,7 +14,7 @@ pub fn whole_kind<O: WrittenOrder>(order: &O, text: &[u8]) -> Option<O::Kind>
 
 // The kind that was read, if its text took all the bytes.
 fn all_taken<K: Copy>(read: Option<(K, usize)>, bytes: usize) -> Option<K>
-    ensures { result ≡ taken-whole read bytes }
+    ensures { result ≡ taken_whole read bytes }
 {
     let (kind, taken) = read?;
     if taken == bytes { Some(kind) } else { None }

@@ -1,6 +1,6 @@
 // A term in memory: its statements, and the depths of its variables.
 ghost use Rattle.std.specs.Prelude.{◌≡◌, ◌+◌, ◌≤◌, true, vec_len, vec_capacity};
-ghost use Rattle.grammar.specs.Lawful.{lawful as lawful-statements, depths as depths-of, statements as statements-of};
+ghost use Rattle.grammar.specs.Lawful.{lawful as lawful_statements, depths as depths_of, statements as statements_of};
 
 use grammar::statement::Said;
 
@@ -15,8 +15,8 @@ pub struct Term<K> {
     depths: Vec<usize>,
     features: usize,
     room: usize,
-    ghost lawful: { lawful-statements features (statements-of rows.items) ≡ true },
-    ghost deep: { depths.items ≡ depths-of (statements-of rows.items) },
+    ghost lawful: { lawful_statements features (statements_of rows.items) ≡ true },
+    ghost deep: { depths.items ≡ depths_of (statements_of rows.items) },
     ghost within: { vec_len rows ≤ room },
     ghost held: { room ≤ vec_capacity rows },
     ghost spare: { room + 1 ≤ vec_capacity depths },

@@ -1,7 +1,7 @@
 // The list that comes with the matcher.
 ghost use Rattle.std.specs.Prelude.{◌≡◌, [], Ok, slice_index_or};
 ghost use Rattle.kinds.specs.Lists.{listing};
-ghost use Rattle.kinds.specs.Shipped.{shipped as shipped-kinds};
+ghost use Rattle.kinds.specs.Shipped.{shipped as shipped_kinds};
 ghost use Rattle.kinds.specs.Shipped.{shipped_lines};
 
 use super::List;
@@ -167,14 +167,14 @@ pub const SHIPPED: List = List {
 
 // The constant, whose invariant is proved here.
 fn constant() -> List
-    ensures { listing result ≡ shipped-kinds }
+    ensures { listing result ≡ shipped_kinds }
 {
     SHIPPED
 }
 
 // The shipped list as a value of its own.
 pub fn shipped() -> List
-    ensures { listing result ≡ shipped-kinds }
+    ensures { listing result ≡ shipped_kinds }
 {
     constant()
 }
@@ -200,7 +200,7 @@ fn line(i: usize) -> &'static [u8]
 // Declares the nine lines in a new draft and closes it.
 fn declare_lines(list: &mut List) -> Result<(), Refusal>
     ensures answer { result ≡ Ok tt }
-    ensures after { listing list.new ≡ shipped-kinds }
+    ensures after { listing list.new ≡ shipped_kinds }
 {
     let mut draft = Draft::new();
     for i in 0..9 {
@@ -212,7 +212,7 @@ fn declare_lines(list: &mut List) -> Result<(), Refusal>
 // Fills a list by declaring the nine lines and closing: what comes of it is the shipped list.
 pub fn declare_shipped(list: &mut List) -> Result<(), Refusal>
     ensures answer { result ≡ Ok tt }
-    ensures after { listing list.new ≡ shipped-kinds }
+    ensures after { listing list.new ≡ shipped_kinds }
 {
     declare_lines(list)
 }

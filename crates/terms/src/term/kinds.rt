@@ -3,7 +3,7 @@ ghost use Rattle.std.specs.Prelude.{◌≡◌, ℕ, ◌+◌, ◌<◌, ◌≤◌,
 ghost use Rattle.refusals.specs.declared.Refusal.{Refusal as Refused};
 ghost use Rattle.grammar.specs.declared.statement.Said.{Said as Row};
 ghost use Rattle.grammar.specs.Lines.{Answers};
-ghost use Rattle.grammar.specs.Lawful.{depths as depths-of, statements as statements-of};
+ghost use Rattle.grammar.specs.Lawful.{depths as depths_of, statements as statements_of};
 ghost use Rattle.grammar.specs.Only.{OnlyReads};
 ghost use Rattle.features.specs.Model.{feature_names};
 ghost use Rattle.reading.specs.Notes.{noted, statement_in};
@@ -74,9 +74,9 @@ fn depth_of(depths: &[usize], variable: usize) -> usize
 // One statement more, and where its value is the next variable the depth of that.
 fn push<K: Copy>(rows: &mut Vec<Said<K>>, depths: &mut Vec<usize>, said: Said<K>)
     requires room { (vec_len rows.old < vec_capacity rows.old) × (vec_len depths.old < vec_capacity depths.old) }
-    requires deep { depths.old.items ≡ depths-of (statements-of rows.old.items) }
+    requires deep { depths.old.items ≡ depths_of (statements_of rows.old.items) }
     ensures items { rows.new.items ≡ rows.old.items ++ said ∷ [] }
-    ensures deep { depths.new.items ≡ depths-of (statements-of rows.new.items) }
+    ensures deep { depths.new.items ≡ depths_of (statements_of rows.new.items) }
     ensures capacity { (vec_capacity rows.new ≡ vec_capacity rows.old) × (vec_capacity depths.new ≡ vec_capacity depths.old) }
 {
     match said.statement {
@@ -106,7 +106,7 @@ fn fill<O: WrittenOrder>(
     requires kinds { Readable (O.texts order.now) (noted line.now notes.now).said }
     requires room { (notes.now.count ≤ vec_capacity rows.old) × (notes.now.count + 1 ≤ vec_capacity depths.old) }
     ensures read { OnlyReads (O.texts order.now) (noted line.now notes.now).said rows.new.items }
-    ensures deep { depths.new.items ≡ depths-of (statements-of rows.new.items) }
+    ensures deep { depths.new.items ≡ depths_of (statements_of rows.new.items) }
     ensures capacity { (vec_capacity rows.new ≡ vec_capacity rows.old) × (vec_capacity depths.new ≡ vec_capacity depths.old) }
 {
     rows.clear();

@@ -1,6 +1,6 @@
 // A new term, and what can be asked of a term.
 ghost use Rattle.std.specs.Prelude.{◌≡◌, [], map, length, IfOk};
-ghost use Rattle.grammar.specs.Lawful.{statements as statements-of};
+ghost use Rattle.grammar.specs.Lawful.{statements as statements_of};
 ghost use Rattle.terms.specs.Terms.{said_of, room_of, features_of, depths_in, From0, From1};
 
 use super::Term;
@@ -49,7 +49,7 @@ impl<K: Copy> Term<K> {
 
     // The statement with this number, from 1.
     pub fn statement(&self, number: usize) -> Option<Statement<K>>
-        ensures { From1 (statements-of (said_of self.now)) number result }
+        ensures { From1 (statements_of (said_of self.now)) number result }
     {
         if number == 0 || number > self.rows.len() {
             return None;
