@@ -1,14 +1,11 @@
 -- The common kind, case by case, and what `==` on kinds tells.
-use Rattle.std.proofs.Common.{◌≡◌, Bool, true, false, cond, refl, ◌&&◌, ◌||◌, Some, None, sym, ap, ◌∙◌, inl, inr, Decides, int_eq}
+use Rattle.std.proofs.Common.{◌≡◌, true, false, cond, ◌&&◌, ◌||◌, Some, None, sym, ap, ◌∙◌, inl, inr, Decides, int_eq}
 use Rattle.std.proofs.lemmas.Bool.{false≢true, cases_Bool, or_from, cond-true, cond-false}
+use Rattle.std.proofs.Math.Bool.{or-true}
 use Rattle.std.proofs.lemmas.Bool.Decides.{Decides-and, Decides-int_eq}
 use Rattle.bands.specs.declared.band.Band.{Band}
 use Rattle.bands.specs.Bands.{widest, is_band, same, meet, common}
 use Rattle.bands.specs.Rules.{same_ends, same_true, same_itself}
-
-or_true : (x : Bool) → (x || true) ≡ true
-or_true true = refl
-or_true false = refl
 
 -- `==` on kinds compares their ends
 equal_ends : (a b : Band) → Decides (int_eq a.low b.low && int_eq a.high b.high) ((a.low ≡ b.low) × (a.high ≡ b.high))
@@ -26,14 +23,14 @@ unlike a b h =
       | inr f ↦ f
     ]
 
-common-left : (a b : Band) → (same a b || same b widest) ≡ true → common a b ≡ Some a
-common-left a b h = cond-true (same a b || same b widest) _ _ h
+common-left : (a b : Band) → (same a b || same b widest) ≡ true → Some a ≡ common a b
+common-left a b h = sym (cond-true (same a b || same b widest) _ _ h)
 
-pub common-same : (a b : Band) → same a b ≡ true → common a b ≡ Some a
-common-same a b h = common-left a b (ap (λ x. x || same b widest) h)
+pub common_when_alike : (a b : Band) → true ≡ (int_eq a.low b.low && int_eq a.high b.high) → Some a ≡ common a b
+common_when_alike a b h = common-left a b (ap (λ x. x || same b widest) (alike a b h))
 
-pub common-widest : (a b : Band) → same b widest ≡ true → common a b ≡ Some a
-common-widest a b h = common-left a b (ap (λ x. same a b || x) h ∙ or_true (same a b))
+pub common_when_widest : (a b : Band) → true ≡ (int_eq b.low widest.low && int_eq b.high widest.high) → Some a ≡ common a b
+common_when_widest a b h = common-left a b (ap (λ x. same a b || x) (alike b widest h) ∙ or-true (same a b))
 
 -- neither is the other, and b is not the widest
 pub record Apart (a b : Band) : Type 0 where

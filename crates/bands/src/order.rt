@@ -18,6 +18,7 @@ impl Order for Bands {
         WIDEST
     }
 
+    #[tactic(auto, using(crate::proofs::Common::common_when_alike, crate::proofs::Common::common_when_widest))]
     fn common(&self, a: Band, b: Band) -> Option<Band> {
         if a == b || b == WIDEST {
             return Some(a);

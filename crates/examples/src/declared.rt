@@ -2,25 +2,13 @@
 use declarations::name::Name;
 use features::table::Features;
 use refusals::Refusal;
-use std::process::Abort;
 use std::test::Fail;
 
-// What the list of features says of a number: the name, or nothing.
-fn check_name(
-    rt: &impl Abort,
-    features: &Features,
-    feature: usize,
-    expected: &[u8],
-) -> Result<(), Fail> {
+// Whether the feature with this number has this name.
+fn is_named(features: &Features, feature: usize, name: &[u8]) -> bool {
     match features.name(feature) {
-        Some(name) => {
-            assert!(rt; name.is(expected));
-            Ok(())
-        },
-        None => {
-            assert!(rt; false);
-            Ok(())
-        },
+        Some(held) => held.is(name),
+        None => false,
     }
 }
 
@@ -33,7 +21,7 @@ fn features_are_numbered_in_turn(rt: HostRuntime) -> Result<(), Fail> {
     assert_eq!(rt; features.find(b"back"), Some(1));
     assert_eq!(rt; features.find(b"bac"), None);
     assert_eq!(rt; features.find(b"backs"), None);
-    check_name(&rt, &features, 1, b"back")?;
+    assert!(rt; is_named(&features, 1, b"back"));
     assert!(rt; features.name(2).is_none());
     Ok(())
 }

@@ -5,16 +5,16 @@ use features::table::Features;
 use grammar::statement::Statement;
 use orders::texts::WrittenOrder;
 use refusals::Refusal;
-use std::process::Abort;
 use std::test::Fail;
 use terms::term::Term;
 
 // The features `paid` and `back`.
-fn two(rt: &impl Abort) -> Features {
+fn two() -> Result<Features, Fail> {
     let mut features = Features::new();
-    assert_eq!(rt; features.declare(b"paid"), Ok(0));
-    assert_eq!(rt; features.declare(b"back"), Ok(1));
-    features
+    if features.declare(b"paid") != Ok(0) || features.declare(b"back") != Ok(1) {
+        return Err(Fail::new("a feature is refused"));
+    }
+    Ok(features)
 }
 
 // The statement that the variable is at or under the band.
@@ -49,7 +49,7 @@ fn a_new_term_is_that_of_a_bare_name(rt: HostRuntime) -> Result<(), Fail> {
 fn a_line_is_read_with_its_places_and_depths(rt: HostRuntime) -> Result<(), Fail> {
     let mut term = Term::new(rt.alloc(), 399)?;
     assert!(rt;
-        term.read(&Bands, &two(&rt), b"-4..-4(paid=>X:1..9(back=>Y),back=>Y)")
+        term.read(&Bands, &two()?, b"-4..-4(paid=>X:1..9(back=>Y),back=>Y)")
             .is_ok()
     );
     assert_eq!(rt; term.statements(), 5);
@@ -74,7 +74,7 @@ fn a_line_is_read_with_its_places_and_depths(rt: HostRuntime) -> Result<(), Fail
 
 #[test]
 fn a_refused_line_leaves_the_term(rt: HostRuntime) -> Result<(), Fail> {
-    let features = two(&rt);
+    let features = two()?;
     let mut term = Term::new(rt.alloc(), 3)?;
     assert!(rt; term.read(&Bands, &features, b"1..9(paid=>2..3)").is_ok());
     assert_eq!(rt;
@@ -96,7 +96,7 @@ fn a_refused_line_leaves_the_term(rt: HostRuntime) -> Result<(), Fail> {
 
 #[test]
 fn a_line_with_more_statements_than_there_is_room_for(rt: HostRuntime) -> Result<(), Fail> {
-    let features = two(&rt);
+    let features = two()?;
     let mut term = Term::new(rt.alloc(), 2)?;
     assert!(rt; term.read(&Bands, &features, b"1..9(paid=>Y)").is_ok());
     assert_eq!(rt;

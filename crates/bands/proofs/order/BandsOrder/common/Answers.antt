@@ -1,18 +1,9 @@
 use Rattle.std.proofs.Common.{◌≡◌, false, ◌&&◌, sym, ◌∙◌}
 use Rattle.std.proofs.lemmas.Bool.{and_from, and_left, and_right}
 use Rattle.bands.specs.Bands.{widest, is_band}
-use Rattle.bands.proofs.Common.{Apart, alike, unlike, common-same, common-widest, common-right, common-meet, common-none}
+use Rattle.bands.proofs.Common.{Apart, alike, unlike, common-right, common-meet, common-none}
 use Rattle.bands.proofs.order.BandsOrder.common.Goals as goal
-use Rattle.bands.proofs.order.BandsOrder.common.Goals.{then-eq-via-then-eq, then-eq-via-else-eq+then-eq-2, then-not-is_band-via-then-not-is_band, then-not-is_band-via-else-not-is_band+then-not-is_band-2}
-
-pub returns-then-eq : goal.returns-then-eq
-returns-then-eq c =
-    let a = c.args.a in
-    let b = c.args.b in
-    elim c.then-eq.branch [
-      | then-eq-via-then-eq w ↦ sym (common-same a b (alike a b w.if-eq.ensures))
-      | then-eq-via-else-eq+then-eq-2 w ↦ sym (common-widest a b (alike b widest w.if-eq-2.ensures))
-    ]
+use Rattle.bands.proofs.order.BandsOrder.common.Goals.{then-not-is_band-via-then-not-is_band, then-not-is_band-via-else-not-is_band+then-not-is_band-2}
 
 pub returns-then-eq-3 : goal.returns-then-eq-3
 returns-then-eq-3 c =
