@@ -1,50 +1,38 @@
--- The common kind, case by case, and what `==` on kinds tells.
-use Rattle.std.proofs.Common.{◌≡◌, true, false, cond, ◌&&◌, ◌||◌, Some, None, sym, ap, ◌∙◌, inl, inr, Decides, int_eq}
-use Rattle.std.proofs.lemmas.Bool.{false≢true, cases_Bool, or_from, cond-true, cond-false}
+-- The common kind, case by case, from what `==` on kinds tells.
+use Rattle.std.proofs.Common.{◌≡◌, Bool, true, false, ◌&&◌, ℤ, int_eq, Some, None, Option, sym, refl}
+use Rattle.std.proofs.lemmas.Bool.Decides.{Decides-int_eq, same_from_decides}
 use Rattle.std.proofs.Math.Bool.{or-true}
-use Rattle.std.proofs.lemmas.Bool.Decides.{Decides-and, Decides-int_eq}
 use Rattle.bands.specs.declared.band.Band.{Band}
-use Rattle.bands.specs.Bands.{widest, is_band, same, meet, common}
-use Rattle.bands.specs.Rules.{same_ends, same_true, same_itself}
+use Rattle.bands.specs.Bands.{equal, same, widest, is_band, meet, common}
+use Rattle.bands.specs.Rules.{equal_true, equal_itself}
 
--- `==` on kinds compares their ends
-equal_ends : (a b : Band) → Decides (int_eq a.low b.low && int_eq a.high b.high) ((a.low ≡ b.low) × (a.high ≡ b.high))
-equal_ends a b = Decides-and _ _ (Decides-int_eq a.low b.low) (Decides-int_eq a.high b.high)
+equal_is : (x y : ℤ) → equal x y ≡ int_eq x y
+equal_is x y = same_from_decides (equal x y) (int_eq x y) (equal_true x y, λ e. rw e (equal_itself y)) (Decides-int_eq x y)
 
-pub alike : (a b : Band) → true ≡ (int_eq a.low b.low && int_eq a.high b.high) → same a b ≡ true
-alike a b h = let (low, high) = (equal_ends a b).0 (sym h) in same_itself a b (same_ends a b low high)
+-- what `==` on kinds answers
+abbrev eq : Band → Band → Bool
+eq a b = int_eq a.low b.low && int_eq a.high b.high
 
-pub unlike : (a b : Band) → false ≡ (int_eq a.low b.low && int_eq a.high b.high) → same a b ≡ false
-unlike a b h =
-    elim (cases_Bool (same a b)) [
-      | inl t ↦
-          let e = same_true a b t in
-          absurd (false≢true (h ∙ (equal_ends a b).1 (ap (λ (k : Band). k.low) e, ap (λ (k : Band). k.high) e)))
-      | inr f ↦ f
-    ]
+pub alike : (a b : Band) → true ≡ eq a b → same a b ≡ true
+alike a b h = rw (equal_is a.low b.low, equal_is a.high b.high) (sym h)
 
-common-left : (a b : Band) → (same a b || same b widest) ≡ true → Some a ≡ common a b
-common-left a b h = sym (cond-true (same a b || same b widest) _ _ h)
+pub unlike : (a b : Band) → false ≡ eq a b → same a b ≡ false
+unlike a b h = rw (equal_is a.low b.low, equal_is a.high b.high) (sym h)
 
-pub common_when_alike : (a b : Band) → true ≡ (int_eq a.low b.low && int_eq a.high b.high) → Some a ≡ common a b
-common_when_alike a b h = common-left a b (ap (λ x. x || same b widest) (alike a b h))
+pub when_alike : (a b : Band) → true ≡ eq a b → Some a ≡ common a b
+when_alike a b h = rw (alike a b h) refl
 
-pub common_when_widest : (a b : Band) → true ≡ (int_eq b.low widest.low && int_eq b.high widest.high) → Some a ≡ common a b
-common_when_widest a b h = common-left a b (ap (λ x. same a b || x) (alike b widest h) ∙ or-true (same a b))
+pub when_widest : (a b : Band) → true ≡ eq b widest → Some a ≡ common a b
+when_widest a b h = rw (alike b widest h, or-true (same a b)) refl
 
--- neither is the other, and b is not the widest
-pub record Apart (a b : Band) : Type 0 where
-  pub differ : same a b ≡ false
-  pub narrow : same b widest ≡ false
+pub when_first_widest : (a b : Band) → false ≡ eq a b → false ≡ eq b widest → true ≡ eq a widest → Some b ≡ common a b
+when_first_widest a b d n h = rw (unlike a b d, unlike b widest n, alike a widest h) refl
 
-pub common-right : (a b : Band) → Apart a b → same a widest ≡ true → common a b ≡ Some b
-common-right a b p t = cond-false (same a b || same b widest) _ _ (or_from _ _ p.differ p.narrow) ∙ cond-true (same a widest) _ _ t
+pub when_no_band : (a b : Band) → false ≡ eq a b → false ≡ eq b widest → false ≡ eq a widest → false ≡ (is_band a && is_band b) → None ≡ common a b
+when_no_band a b d n m h = rw (unlike a b d, unlike b widest n, unlike a widest m, sym h) refl
 
-common-rest : (a b : Band) → Apart a b → same a widest ≡ false → common a b ≡ cond (is_band a && is_band b) (meet a b) None
-common-rest a b p f = cond-false (same a b || same b widest) _ _ (or_from _ _ p.differ p.narrow) ∙ cond-false (same a widest) _ _ f
+pub when_bands : (a b : Band) (r : Option Band) → false ≡ eq a b → false ≡ eq b widest → false ≡ eq a widest → true ≡ is_band a → true ≡ is_band b → r ≡ meet a b → r ≡ common a b
+when_bands a b r d n m h i e = rw (unlike a b d, unlike b widest n, unlike a widest m, sym h, sym i) e
 
-pub common-meet : (a b : Band) → Apart a b → same a widest ≡ false → (is_band a && is_band b) ≡ true → common a b ≡ meet a b
-common-meet a b p f t = common-rest a b p f ∙ cond-true (is_band a && is_band b) _ _ t
-
-pub common-none : (a b : Band) → Apart a b → same a widest ≡ false → (is_band a && is_band b) ≡ false → common a b ≡ None
-common-none a b p f t = common-rest a b p f ∙ cond-false (is_band a && is_band b) _ _ t
+-- the answer of `common` in each of its cases
+pub ruleset common_cases = (when_alike, when_widest, when_first_widest, when_no_band, when_bands)

@@ -1,7 +1,5 @@
 pub mod Common
-pub mod Numerals
-pub mod Naturals
-pub mod Signs
-pub mod Parsed
+pub mod Numbers
+pub mod Points
 pub mod Stopped
-pub mod Writing
+pub mod Lengths

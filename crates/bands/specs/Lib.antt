@@ -3,4 +3,3 @@ pub mod Rules
 pub mod Order
 pub mod Texts
 pub mod Letters
-pub mod Spelled

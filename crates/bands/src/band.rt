@@ -11,7 +11,7 @@ pub const WIDEST: Band = Band {
     high: LIMIT,
 };
 
-// Any two numbers. They are a band if the lowest is not above the highest and both are within the limit.
+// Any two numbers, and no `Display`: only a band has a text, and it is put into lent memory. They are a band if the lowest is not above the highest and both are within the limit.
 #[derive(Clone, Copy, PartialEq, Eq, Debug)]
 pub struct Band {
     pub low: i64,

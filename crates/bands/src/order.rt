@@ -18,7 +18,7 @@ impl Order for Bands {
         WIDEST
     }
 
-    #[tactic(auto, using(crate::proofs::Common::common_when_alike, crate::proofs::Common::common_when_widest))]
+    #[tactic(auto, using(crate::proofs::Common::common_cases))]
     fn common(&self, a: Band, b: Band) -> Option<Band> {
         if a == b || b == WIDEST {
             return Some(a);
@@ -39,6 +39,7 @@ fn meet(a: Band, b: Band) -> Option<Band>
 {
     let low = a.low.max(b.low);
     let high = a.high.min(b.high);
+    // Not `(low <= high).then_some(..)`: no tactic proves that without an answer by hand, and this is proved with none.
     if low <= high {
         Some(Band { low, high })
     } else {

@@ -1,8 +1,8 @@
 -- The texts of declared kinds: their names.
-use Rattle.std.proofs.Common.{◌≡◌, ℕ, ◌<◌, ◌≤◌, true, false, ◌&&◌, eqb, ltb, leb, List, [], ◌∷◌, length, Some, None, Option, sym, refl, ap, ◌∙◌, subst, inl, inr, arith}
+use Rattle.std.proofs.Common.{◌≡◌, ℕ, ◌<◌, true, false, ◌&&◌, eqb, ltb, leb, List, [], ◌∷◌, length, Some, None, Option, sym, refl, ap, ◌∙◌, subst, inl, inr, arith}
 use Rattle.std.specs.List.{AllByRecursion}
 use Rattle.std.proofs.ByRecursion.{All-weaker}
-use Rattle.std.proofs.lemmas.Bool.{and_parts, or_cases, or_left, or_right, cases_Bool, cond-true, cond-false, ltb-true, lt-ltb, le-ltb, not_from_true, both_ways}
+use Rattle.std.proofs.lemmas.Bool.{and_parts, or_cases, or_left, or_right, cases_Bool, cond-true, cond-false, ltb-true, lt-ltb, not_from_true, both_ways}
 use Rattle.orders.specs.Texts.{Texts, IsText, part_byte, text_byte, stops}
 use Rattle.orders.proofs.Singles.{ReadsWhole}
 use Rattle.declarations.specs.Names.{letter, name_byte, all_name, is_name, listed}
@@ -28,12 +28,6 @@ all_parts (b ∷ bs) a = let p = and_parts (name_byte b) _ a in (name-part b p.0
 name_parts : (w : List ℕ) → is_name w ≡ true → AllByRecursion (λ b. part_byte b ≡ true) w
 name_parts [] n = absurd (both_ways false refl n)
 name_parts (b ∷ bs) n = let p = and_parts (letter b) _ n in (name-part b (letter-name b p.0), all_parts bs p.1)
-
-pub text_past : (ds : List Declaration) (k : ℕ) → length ds ≤ k → name_text ds k ≡ None
-text_past ds k l = cond-false _ (Some (name_of ds k)) None (le-ltb k (length ds) l)
-
-pub text-here : (ds : List Declaration) (k : ℕ) → k < length ds → name_text ds k ≡ Some (name_of ds k)
-text-here ds k l = cond-true _ (Some (name_of ds k)) None (lt-ltb k (length ds) l)
 
 pub text-name : (ds : List Declaration) (k : ℕ) (t : List ℕ) → name_text ds k ≡ Some t → (k < length ds) × (name_of ds k ≡ t)
 text-name ds k t e =

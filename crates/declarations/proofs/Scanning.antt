@@ -1,185 +1,88 @@
--- Going over a line byte by byte decides its grammar.
-use Rattle.std.proofs.Common.{◌≡◌, ℕ, ◌+◌, ◌<◌, ◌≤◌, true, false, eqb, List, [], ◌∷◌, ◌++◌, length, get_or, take, Some, None, Option, sym, refl, ap, ◌∙◌, inl, inr, arith}
-use Rattle.std.specs.List.{AllByRecursion}
-use Rattle.std.proofs.lemmas.List.{take_more, take_all}
-use Rattle.std.proofs.lemmas.Bool.{and_parts, and_from, both_ways, cases_Bool, eqb-true, cond-true, cond-false}
-use Rattle.declarations.specs.declared.line.Part.{Part}
-use Rattle.declarations.specs.declared.line.Part.TheVariants.{Start, Name, Blank, Wider}
+-- Where a name ends that a line begins with, and where a word of the line ends.
+use Rattle.std.proofs.Common.{◌≡◌, ℕ, ◌+◌, ◌-◌, ◌<◌, ◌≤◌, Bool, not, true, false, eqb, List, [], ◌∷◌, length, get_or, take, drop, position, unwrap_or, Option, add_comm, add-one, sym, refl, ap, ◌∙◌, subst, inl, inr, arith, length-append, length-drop}
+use Rattle.std.specs.List.{position_or_len, slice_range}
+use Rattle.std.proofs.lemmas.List.Sums.{prefix_len-le-length, prefix_len_stops, fails_before_first}
+use Rattle.std.proofs.lemmas.List.{get_or-drop, take_rest}
+use Rattle.std.proofs.lemmas.Bool.{both_ways, and_from, not-true, not-false, cases_Bool, cases_lt, eqb-true, eq-eqb}
+use Rattle.orders.proofs.Parts.{first_or_end}
 use Rattle.declarations.specs.Names.{letter, name_byte, all_name, is_name}
-use Rattle.declarations.specs.Lines.{tail, Line, GoesOn, Breaks}
-use Rattle.declarations.specs.Scanner.{next_part}
+use Rattle.declarations.specs.Lines.{NameEnd, WordEnd}
+use Rattle.declarations.proofs.Words.{letter-name, name-some, front-first, name-most}
 
-unfoldable pub runs : Part → List ℕ → Option Part
-runs p [] = Some p
-runs p (b ∷ bs) = elim (next_part p b) [ Some q ↦ runs q bs | None ↦ None ]
+abbrev outside : ℕ → Bool
+outside = λ b. not (name_byte b)
 
--- what is still to come from a place in the line, to its lawful end
-abbrev Rest : Part → List ℕ → Type 0
-Rest Start bytes = Line bytes
-Rest Name bytes = (w : List ℕ) × (ws : List (List ℕ)) × (all_name w ≡ true) × AllByRecursion (λ v. is_name v ≡ true) ws × (0 < length ws) × (bytes ≡ w ++ tail ws)
-Rest Blank bytes = (w : List ℕ) × (ws : List (List ℕ)) × (is_name w ≡ true) × AllByRecursion (λ v. is_name v ≡ true) ws × (bytes ≡ w ++ tail ws)
-Rest Wider bytes = (w : List ℕ) × (ws : List (List ℕ)) × (all_name w ≡ true) × AllByRecursion (λ v. is_name v ≡ true) ws × (bytes ≡ w ++ tail ws)
-
-abbrev onward : Option Part → List ℕ → Option Part
-onward (Some p) bs = runs p bs
-onward None bs = None
-
-runs-step : (p : Part) (b : ℕ) (bs : List ℕ) → runs p (b ∷ bs) ≡ onward (next_part p b) bs
-unfolding runs
-runs-step p b bs = step (next_part p b)
-  where
-    step : (o : Option Part) → (elim o [ Some q ↦ runs q bs | None ↦ None ]) ≡ onward o bs
-    step (Some q) = refl
-    step None = refl
-
-runs_append : (p : Part) (xs ys : List ℕ) → runs p (xs ++ ys) ≡ onward (runs p xs) ys
-unfolding runs
-runs_append p [] ys = refl
-runs_append p (b ∷ bs) ys =
-    runs-step p b (bs ++ ys) ∙ step (next_part p b) (λ q. runs_append q bs ys) ∙ ap (λ o. onward o ys) (sym (runs-step p b bs))
-  where
-    step : (o : Option Part) → ((q : Part) → runs q (bs ++ ys) ≡ onward (runs q bs) ys) → onward o (bs ++ ys) ≡ onward (onward o bs) ys
-    step (Some q) h = h q
-    step None h = refl
-
-none-some : (p : Part) → ◌≡◌ {A = Option Part} None (Some p) → ⊥
-none-some p e = let z : ◌≡◌ {A = ℕ} 0 1 = cc in omega arith
-
--- a lawful line runs to its end
-stay : (p : Part) → ((b : ℕ) → name_byte b ≡ true → next_part p b ≡ Some p) → (w more : List ℕ) → all_name w ≡ true → runs p (w ++ more) ≡ runs p more
+-- one byte more of a name
+all_more : (b : ℕ) (bs : List ℕ) (n : ℕ) → name_byte b ≡ true → all_name (take n bs) ≡ true → all_name (take (1 + n) (b ∷ bs)) ≡ true
 unfolding all_name
-stay p h [] more a = refl
-stay p h (b ∷ bs) more a =
-    let q = and_parts (name_byte b) _ a in
-    runs-step p b (bs ++ more) ∙ ap (λ o. onward o (bs ++ more)) (h b q.0) ∙ stay p h bs more q.1
+all_more b bs n t h = rw (add_comm 1 n, add-one) (and_from _ _ t h)
 
-stay_wider : (w more : List ℕ) → all_name w ≡ true → runs Wider (w ++ more) ≡ runs Wider more
-stay_wider = stay Wider (λ b n. cond-true _ (Some Wider) _ n)
-
-run_word : (w more : List ℕ) → is_name w ≡ true → runs Blank (w ++ more) ≡ runs Wider more
-run_word [] more n = absurd (both_ways false refl n)
-run_word (b ∷ bs) more n =
-    let q = and_parts (letter b) _ n in
-    runs-step Blank b (bs ++ more) ∙ ap (λ o. onward o (bs ++ more)) (cond-true _ (Some Wider) None q.0) ∙ stay_wider bs more q.1
-
-run_wider : (ws : List (List ℕ)) → AllByRecursion (λ w. is_name w ≡ true) ws → runs Wider (tail ws) ≡ Some Wider
-unfolding runs tail
-run_wider [] a = refl
-run_wider (w ∷ ws) a = run_word w (tail ws) a.0 ∙ run_wider ws a.1
-
-run_tail : (ws : List (List ℕ)) → AllByRecursion (λ w. is_name w ≡ true) ws → 0 < length ws → runs Name (tail ws) ≡ Some Wider
-unfolding runs tail
-run_tail [] a l = absurd (omega arith)
-run_tail (w ∷ ws) a l = run_word w (tail ws) a.0 ∙ run_wider ws a.1
-
-run_line : (w : List ℕ) (ws : List (List ℕ)) → is_name w ≡ true → AllByRecursion (λ v. is_name v ≡ true) ws → 0 < length ws → runs Start (w ++ tail ws) ≡ Some Wider
-run_line [] ws n a l = absurd (both_ways false refl n)
-run_line (b ∷ bs) ws n a l =
-    let q = and_parts (letter b) _ n in
-    runs-step Start b (bs ++ tail ws) ∙ ap (λ o. onward o (bs ++ tail ws)) (cond-true _ (Some Name) None q.0)
-    ∙ stay Name (λ c m. cond-true _ (Some Name) _ m) bs (tail ws) q.1 ∙ run_tail ws a l
-
-lawful-runs : (line : List ℕ) → Line line → runs Start line ≡ Some Wider
-lawful-runs line l = ap (runs Start) l.whole ∙ run_line l.name l.wider l.named l.each l.some
-
--- and what runs to the end is a lawful line
-wrong-end : (p : Part) → ◌≡◌ {A = Option Part} (Some p) (Some Wider) → p ≡ Wider
-wrong-end p e = cc
-
-after : (p : Part) (b : ℕ) (bs : List ℕ) (o : Option Part) → next_part p b ≡ o → runs p (b ∷ bs) ≡ Some Wider → onward o bs ≡ Some Wider
-after p b bs o e h = sym (ap (λ x. onward x bs) e) ∙ sym (runs-step p b bs) ∙ h
-
-rest : (p : Part) (bytes : List ℕ) → runs p bytes ≡ Some Wider → Rest p bytes
-unfolding runs tail all_name
-rest Start [] e = absurd (let z : ◌≡◌ {A = ℕ} 0 1 = cc (wrong-end Start e) in omega arith)
-rest Name [] e = absurd (let z : ◌≡◌ {A = ℕ} 0 1 = cc (wrong-end Name e) in omega arith)
-rest Blank [] e = absurd (let z : ◌≡◌ {A = ℕ} 0 1 = cc (wrong-end Blank e) in omega arith)
-rest Wider [] e = ([], [], refl, tt, refl)
-rest Start (b ∷ bs) e =
-    elim (cases_Bool (letter b)) [
-      | inl t ↦
-          let (w, ws, a, all, some, is) = rest Name bs (after Start b bs (Some Name) (cond-true _ (Some Name) None t) e) in
-          record { name = b ∷ w; wider = ws; named = and_from _ _ t a; each = all; some = some; whole = ap (λ x. b ∷ x) is }
-      | inr f ↦ absurd (none-some Wider (after Start b bs None (cond-false _ (Some Name) None f) e))
-    ]
-rest Name (b ∷ bs) e =
+all_front : (bs : List ℕ) → all_name (take (position_or_len outside bs) bs) ≡ true
+unfolding all_name
+all_front [] = refl
+all_front (b ∷ bs) =
     elim (cases_Bool (name_byte b)) [
-      | inl t ↦
-          let (w, ws, a, all, some, is) = rest Name bs (after Name b bs (Some Name) (cond-true _ (Some Name) _ t) e) in
-          (b ∷ w, ws, and_from _ _ t a, all, some, ap (λ x. b ∷ x) is)
-      | inr f ↦
-          elim (cases_Bool (eqb b 32)) [
-            | inl s ↦
-                let (w, ws, n, all, is) = rest Blank bs (after Name b bs (Some Blank) (cond-false _ (Some Name) _ f ∙ cond-true _ (Some Blank) None s) e) in
-                ([], w ∷ ws, refl, (n, all), omega arith, ap (λ x. x ∷ bs) (eqb-true b 32 s) ∙ ap (λ x. 32 ∷ x) is)
-            | inr s ↦ absurd (none-some Wider (after Name b bs None (cond-false _ (Some Name) _ f ∙ cond-false _ (Some Blank) None s) e))
-          ]
-    ]
-rest Blank (b ∷ bs) e =
-    elim (cases_Bool (letter b)) [
-      | inl t ↦
-          let (w, ws, a, all, is) = rest Wider bs (after Blank b bs (Some Wider) (cond-true _ (Some Wider) None t) e) in
-          (b ∷ w, ws, and_from _ _ t a, all, ap (λ x. b ∷ x) is)
-      | inr f ↦ absurd (none-some Wider (after Blank b bs None (cond-false _ (Some Wider) None f) e))
-    ]
-rest Wider (b ∷ bs) e =
-    elim (cases_Bool (name_byte b)) [
-      | inl t ↦
-          let (w, ws, a, all, is) = rest Wider bs (after Wider b bs (Some Wider) (cond-true _ (Some Wider) _ t) e) in
-          (b ∷ w, ws, and_from _ _ t a, all, ap (λ x. b ∷ x) is)
-      | inr f ↦
-          elim (cases_Bool (eqb b 32)) [
-            | inl s ↦
-                let (w, ws, n, all, is) = rest Blank bs (after Wider b bs (Some Blank) (cond-false _ (Some Wider) _ f ∙ cond-true _ (Some Blank) None s) e) in
-                ([], w ∷ ws, refl, (n, all), ap (λ x. x ∷ bs) (eqb-true b 32 s) ∙ ap (λ x. 32 ∷ x) is)
-            | inr s ↦ absurd (none-some Wider (after Wider b bs None (cond-false _ (Some Wider) _ f ∙ cond-false _ (Some Blank) None s) e))
-          ]
+      | inl t ↦ rw t (all_more b bs _ t (all_front bs))
+      | inr f ↦ rw f refl
     ]
 
-pub runs-lawful : (line : List ℕ) → runs Start line ≡ Some Wider → Line line
-runs-lawful line e = rest Start line e
+name_more : (b : ℕ) (bs : List ℕ) (n : ℕ) → letter b ≡ true → all_name (take n bs) ≡ true → is_name (take (1 + n) (b ∷ bs)) ≡ true
+name_more b bs n t h = rw (add_comm 1 n, add-one) (and_from _ _ t h)
 
--- from every part of a line a lawful line goes on
-live : (p : Part) → (more : List ℕ) × (runs p more ≡ Some Wider)
-unfolding runs
-live Start = (97 ∷ 32 ∷ 97 ∷ [], refl)
-live Name = (32 ∷ 97 ∷ [], refl)
-live Blank = (97 ∷ [], refl)
-live Wider = ([], refl)
+name_front : (line : List ℕ) → 0 < length line → letter (get_or line 0 0) ≡ true → is_name (take (position_or_len outside line) line) ≡ true
+name_front [] l t = absurd (omega arith)
+name_front (b ∷ bs) l t = rw (letter-name b t) (name_more b bs _ t (all_front bs))
 
-goes_on : (front : List ℕ) (p : Part) → runs Start front ≡ Some p → GoesOn front
-goes_on front p e =
-    let (more, h) = live p in
-    (more, runs-lawful (front ++ more) (runs_append Start front more ∙ ap (λ o. onward o more) e ∙ h))
+-- a byte past the name
+name_stops : (line : List ℕ) → position_or_len outside line < length line → name_byte (get_or line (position_or_len outside line) 0) ≡ false
+name_stops line l = not-true _ (not-false _ (prefix_len_stops (λ b. not (outside b)) line 0 l))
 
-stuck : (front : List ℕ) → runs Start front ≡ None → GoesOn front → ⊥
-stuck front e g =
-    let (more, l) = g in
-    none-some Wider (sym (runs_append Start front more ∙ ap (λ o. onward o more) e) ∙ lawful-runs (front ++ more) l)
+-- what the line begins with from its first letter to the first byte outside names
+longest : (line : List ℕ) → 0 < length line → letter (get_or line 0 0) ≡ true → NameEnd line (position_or_len outside line)
+longest line l t =
+    let n : ℕ = position_or_len outside line in
+    record {
+      within = prefix_len-le-length (λ b. not (outside b)) line;
+      name = λ _. name_front line l t;
+      most = λ name rest is whole. elim (cases_lt (position_or_len outside line) (length line)) [
+        | inl h ↦ name-most line (position_or_len outside line) (λ _. name_stops line h) (λ z. absurd (both_ways _ (ap (λ k. name_byte (get_or line k 0)) (sym z) ∙ name_stops line h) (letter-name (get_or line 0 0) t))) name rest is whole
+        | inr h ↦ omega (arith, ap length whole, length-append name rest)
+      ];
+    }
 
--- one byte more
-pub runs-more : (line : List ℕ) (i : ℕ) (p : Part) (o : Option Part) → i < length line → runs Start (take i line) ≡ Some p → next_part p (get_or line i 0) ≡ o → runs Start (take (i + 1) line) ≡ o
-unfolding runs
-runs-more line i p o l e n =
-    ap (runs Start) (take_more line i 0 l) ∙ runs_append Start (take i line) (get_or line i 0 ∷ []) ∙ ap (λ x. onward x (get_or line i 0 ∷ [])) e
-    ∙ runs-step p (get_or line i 0) [] ∙ ap (λ x. onward x []) n ∙ end o
-  where
-    end : (o : Option Part) → onward o [] ≡ o
-    end (Some q) = refl
-    end None = refl
+pub longest_name : (line : List ℕ) (r : Option ℕ) (n : ℕ) → 0 < length line → letter (get_or line 0 0) ≡ true → r ≡ position (λ b. not (name_byte b)) line → n ≡ unwrap_or r (length line) → NameEnd line n
+longest_name line r n l t e f = subst (NameEnd line) (sym (first_or_end outside line r n e f)) (longest line l t)
 
-pub runs_none : (line : List ℕ) → runs Start (take 0 line) ≡ Some Start
-unfolding runs
-runs_none line = refl
+-- a line that begins with no letter begins with no name
+pub no_name : (line : List ℕ) (n : ℕ) → n ≡ 0 → (0 < length line → letter (get_or line 0 0) ≡ false) → NameEnd line n
+no_name line n z f =
+    record {
+      within = omega arith;
+      name = λ h. absurd (omega arith);
+      most = λ name rest is whole. absurd (both_ways _ (f (omega (arith, ap length whole, length-append name rest, name-some name is))) (front-first line name rest is whole));
+    }
 
-pub breaks-here : (line : List ℕ) (i : ℕ) (p : Part) → i < length line → runs Start (take i line) ≡ Some p → next_part p (get_or line i 0) ≡ None → Breaks line i
-breaks-here line i p l e n = (goes_on (take i line) p e, inl (l, stuck (take (i + 1) line) (runs-more line i p None l e n)))
+abbrev blank : ℕ → Bool
+blank = λ b. eqb b 32
 
-pub runs-all : (line : List ℕ) (i : ℕ) (p : Part) → length line ≤ i → runs Start (take i line) ≡ Some p → runs Start line ≡ Some p
-runs-all line i p l e = ap (runs Start) (sym (take_all i line l)) ∙ e
+-- a word ends at the first blank from its start on
+pub word_past : (line : List ℕ) (start : ℕ) (rest : List ℕ) (r : Option ℕ) (n : ℕ) → start ≤ length line → rest ≡ slice_range line start (length line) → r ≡ position (λ b. eqb b 32) rest → n ≡ start + unwrap_or r (length rest) → WordEnd line start n
+word_past line start rest r n l g e f =
+    let d : rest ≡ drop start line = g ∙ take_rest line start in
+    let m : unwrap_or r (length rest) ≡ position_or_len blank rest = first_or_end blank rest r _ e refl in
+    let len : start + length rest ≡ length line = omega (arith, ap length d, length-drop start line) in
+    let at : (k : ℕ) → get_or rest k 0 ≡ get_or line (start + k) 0 = λ k. ap (λ x. get_or x k 0) d ∙ get_or-drop start line k 0 in
+    let most : position_or_len blank rest ≤ length rest = prefix_len-le-length (λ b. not (blank b)) rest in
+    record {
+      before = λ k h g b.
+          let same : start + (k - start) ≡ k = omega arith in
+          both_ways (blank (get_or rest (k - start) 0)) (fails_before_first blank rest (k - start) 0 (omega arith)) (eq-eqb _ 32 (at (k - start) ∙ ap (λ i. get_or line i 0) same ∙ b));
+      end = elim (cases_lt (position_or_len blank rest) (length rest)) [
+        | inl h ↦ inr (omega arith, omega arith, ap (λ i. get_or line i 0) (f ∙ ap (λ i. start + i) m) ∙ sym (at (position_or_len blank rest)) ∙ eqb-true _ 32 (not-false _ (prefix_len_stops (λ b. not (blank b)) rest 0 h)))
+        | inr h ↦ inl (omega arith)
+      ];
+    }
 
-pub breaks-end : (line : List ℕ) (p : Part) → runs Start line ≡ Some p → (p ≡ Wider → ⊥) → Breaks line (length line)
-breaks-end line p e ne = (
-  goes_on (take (length line) line) p (ap (runs Start) (take_all (length line) line (omega arith)) ∙ e),
-  inr (refl, λ l. ne (wrong-end p (sym e ∙ lawful-runs line l))),
-)
+-- past the line there is no word
+pub no_word : (line : List ℕ) (start n : ℕ) → length line < start → n ≡ length line → WordEnd line start n
+no_word line start n h e = record { before = λ k s l b. omega arith; end = inl e }

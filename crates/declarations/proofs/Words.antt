@@ -1,7 +1,7 @@
 -- Names and the bytes that they have.
-use Rattle.std.proofs.Common.{◌≡◌, ℕ, zero, suc, ◌+◌, ◌-◌, ◌<◌, ◌≤◌, true, false, List, [], ◌∷◌, ◌++◌, length, get_or, take, drop, sym, refl, ap, ◌∙◌, inl, inr, arith, length-append, length-drop}
-use Rattle.std.proofs.lemmas.List.{get_or_append_left, get_or-append_right, get_or-drop, take_more}
-use Rattle.std.proofs.lemmas.Bool.{and_parts, and_from, or_left, both_ways, cases_lt, cases_order}
+use Rattle.std.proofs.Common.{◌≡◌, ℕ, zero, suc, ◌+◌, ◌-◌, ◌<◌, ◌≤◌, true, false, List, [], ◌∷◌, ◌++◌, length, get_or, drop, sym, refl, ap, ◌∙◌, inl, inr, arith, length-append, length-drop}
+use Rattle.std.proofs.lemmas.List.{get_or_append_left, get_or-append_right, get_or-drop}
+use Rattle.std.proofs.lemmas.Bool.{and_parts, or_left, both_ways, cases_lt, cases_order}
 use Rattle.declarations.specs.Lines.{tail, WordEnd}
 use Rattle.declarations.specs.Names.{letter, name_byte, all_name, is_name}
 
@@ -27,19 +27,6 @@ name_at [] i n l = absurd (both_ways false refl n)
 name_at (b ∷ bs) zero n l = letter-name b (and_parts (letter b) _ n).0
 name_at (b ∷ bs) (suc i) n l = all_at bs i (and_parts (letter b) _ n).1 (omega arith)
 
-all_push : (bs : List ℕ) (b : ℕ) → all_name bs ≡ true → name_byte b ≡ true → all_name (bs ++ b ∷ []) ≡ true
-unfolding all_name
-all_push [] b a n = and_from _ _ n refl
-all_push (c ∷ bs) b a n = let p = and_parts (name_byte c) _ a in and_from _ _ p.0 (all_push bs b p.1 n)
-
-pub name_push : (w : List ℕ) (b : ℕ) → is_name w ≡ true → name_byte b ≡ true → is_name (w ++ b ∷ []) ≡ true
-name_push [] b n h = absurd (both_ways false refl n)
-name_push (c ∷ bs) b n h = let p = and_parts (letter c) _ n in and_from _ _ p.0 (all_push bs b p.1 h)
-
-pub name_one : (b : ℕ) → letter b ≡ true → is_name (b ∷ []) ≡ true
-unfolding all_name
-name_one b l = and_from _ _ l refl
-
 -- a blank is in no name
 pub blank_apart : (b : ℕ) → name_byte b ≡ true → b ≡ 32 → ⊥
 blank_apart b n e = both_ways (name_byte b) (rw e refl) n
@@ -51,14 +38,6 @@ module _ (line name rest : List ℕ) (n : is_name name ≡ true) (e : line ≡ n
 
   pub front-first : letter (get_or line 0 0) ≡ true
   front-first = rw (e, get_or_append_left name rest 0 0 (name-some name n)) (name-first name n)
-
--- one byte more of the longest name
-pub name-more : (line : List ℕ) (i : ℕ) → i < length line → (0 < i → is_name (take i line) ≡ true) → (0 < i → name_byte (get_or line i 0) ≡ true) → (i ≡ 0 → letter (get_or line 0 0) ≡ true) → is_name (take (i + 1) line) ≡ true
-name-more line i l h m f =
-    elim (cases_lt 0 i) [
-      | inl p ↦ rw (take_more line i 0 l) (name_push (take i line) (get_or line i 0) (h p) (m p))
-      | inr z ↦ let e : i ≡ 0 = omega arith in rw e (rw (take_more line 0 0 (omega arith)) (name_one (get_or line 0 0) (f e)))
-    ]
 
 tail-first : (ws : List (List ℕ)) → 0 < length (tail ws) → get_or (tail ws) 0 0 ≡ 32
 unfolding tail
@@ -123,6 +102,3 @@ module _ (line : List ℕ) (start : ℕ) (w : List ℕ) (ws : List (List ℕ)) (
         | inl all ↦ all ∙ word-last n (omega arith) e.before
         | inr h ↦ word_found n h.0 h.1 h.2 e.before
       ]
-
-pub word-within : (line : List ℕ) (start n : ℕ) → WordEnd line start n → start ≤ length line → (start ≤ n) × (n ≤ length line)
-word-within line start n e l = elim e.end [ inl all ↦ (omega arith, omega arith) | inr h ↦ (h.0, omega (arith, h.1)) ]

@@ -4,3 +4,4 @@ pub mod Declarations
 pub mod Rows
 pub mod Lines
 pub mod Scanner
+pub mod Decided

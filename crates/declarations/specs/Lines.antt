@@ -4,11 +4,12 @@
 -- Refused with 1 at 0: a line of over 1,000 bytes, a name of over 24, or a lawful line for one kind too many.
 -- Refused with 2: `rent`, at 4, since it ends too early; `rent  any`, at 5; `Rent any`, at 0; `rent any `, at 9.
 -- Refused with 3: `any any`, at 0, since `any` is declared; `rent any loan`, at 9, where `loan` is not.
-use Rattle.std.specs.Prelude.{◌≡◌, ℕ, ◌+◌, ◌<◌, ◌≤◌, true, false, ◌⊎◌, List, [], ◌∷◌, ◌++◌, length, take, Some, None, Ok, Err, filter, Option, Result, ◌≢◌, slice_index}
+use Rattle.std.specs.Prelude.{◌≡◌, ℕ, ◌+◌, ◌<◌, ◌≤◌, true, false, ◌⊎◌, List, [], ◌∷◌, ◌++◌, length, take, Ok, Err, filter, Option, Result, ◌≢◌, slice_index}
 use Rattle.std.specs.List.{range_with_len, AllByRecursion}
 use Rattle.refusals.specs.declared.Refusal.{Refusal}
 use Rattle.refusals.specs.Places as places
 use Rattle.refusals.specs.Table.{row}
+use Rattle.scanning.specs.Scanner as scanner
 use Rattle.declarations.specs.Names.{is_name, listed}
 use Rattle.declarations.specs.Declarations.{Declaration, name_of, names}
 
@@ -26,21 +27,13 @@ pub record Line (line : List ℕ) : Type 0 where
   pub some : 0 < length wider
   pub whole : line ≡ name ++ tail wider
 
--- some lawful line begins so
-abbrev pub GoesOn : List ℕ → Type 0
-GoesOn front = places.GoesOn Line front
-
 -- reason 2: p is the first byte at which no lawful line goes on, or the length of a line that only ends too early
 abbrev pub Breaks : List ℕ → ℕ → Type 0
 Breaks line p = places.Breaks Line line p
 
+-- whether a line is lawful, or where it breaks
 abbrev pub Scanned : List ℕ → Option ℕ → Type 0
-Scanned line None = Line line
-Scanned line (Some p) = Breaks line p
-
-abbrev pub Scans : List ℕ → Result (Unit {0}) ℕ → Type 0
-Scans line (Ok _) = Line line
-Scans line (Err p) = Breaks line p
+Scanned line found = scanner.Scanned Line line found
 
 -- the longest name that the line begins with has n bytes
 pub record NameEnd (line : List ℕ) (n : ℕ) : Type 0 where
@@ -48,18 +41,10 @@ pub record NameEnd (line : List ℕ) (n : ℕ) : Type 0 where
   pub name : 0 < n → is_name (take n line) ≡ true
   pub most : (w rest : List ℕ) → is_name w ≡ true → line ≡ w ++ rest → length w ≤ n
 
-abbrev pub FirstOutside : List ℕ → Option ℕ → Type 0
-FirstOutside line (Some n) = NameEnd line n
-FirstOutside line None = NameEnd line (length line)
-
 -- n is the first blank at `start` or past it, or the line's length where there is none
 pub record WordEnd (line : List ℕ) (start n : ℕ) : Type 0 where
   pub before : (k : ℕ) → start ≤ k → k < n → slice_index line k ≢ 32
   pub end : (n ≡ length line) ⊎ ((start ≤ n) × (n < length line) × (slice_index line n ≡ 32))
-
-abbrev pub NextBlank : List ℕ → ℕ → Option ℕ → Type 0
-NextBlank line start (Some n) = WordEnd line start n
-NextBlank line start None = WordEnd line start (length line)
 
 -- the line begins with a name of over 24 bytes
 pub record LongName (line : List ℕ) : Type 0 where

@@ -1,11 +1,15 @@
 // A line that declares a kind: its name, and then a blank and the name of a wider kind, once or more.
-ghost use Rattle.std.specs.Prelude.{◌≡◌};
+ghost use Rattle.std.specs.Prelude.{◌≡◌, not, position};
 ghost use Rattle.declarations.specs.Names.{letter};
 ghost use Rattle.declarations.specs.Names.{name_byte as name_character};
-ghost use Rattle.declarations.specs.Lines.{Scans, Scanned, NameEnd, FirstOutside, WordEnd, NextBlank};
-ghost use Rattle.declarations.specs.Scanner.{next_part};
+ghost use Rattle.declarations.specs.Lines.{Line, Scanned, NameEnd, WordEnd};
+ghost use Rattle.declarations.specs.Scanner.{next_part, ends};
+ghost use Rattle.declarations.specs.declared.line.Part.TheVariants.{Start};
+ghost use Rattle.declarations.specs.Decided.{decided};
 
-// Where in the line a byte stands.
+use scanning::{LinePart, first_blank};
+
+// Where in the line a byte stands. Each grammar has parts of its own; what goes over them is generic.
 #[derive(Clone, Copy)]
 enum Part {
     Start,
@@ -27,91 +31,69 @@ pub fn is_name_byte(byte: u8) -> bool
     matches!(byte, b'a'..=b'z' | b'0'..=b'9' | b'_')
 }
 
-// Where the next byte stands, or none where no lawful line has it there.
-fn next(part: Part, byte: u8) -> Option<Part>
-    ensures { result ≡ next_part part byte }
-{
-    match part {
-        Part::Start if is_letter(byte) => Some(Part::Name),
-        Part::Blank if is_letter(byte) => Some(Part::Wider),
-        Part::Name | Part::Wider if is_name_byte(byte) => Some(part),
-        Part::Name | Part::Wider if byte == b' ' => Some(Part::Blank),
-        _ => None,
-    }
-}
+// What may come next in a line, and where it may end: the cases of the grammar, which its law is about.
+impl LinePart for Part {
+    ghost first_part = { Start };
 
-// Goes over the whole line, up to the byte at which no lawful line goes on, or up to its end where it ends too early.
-fn scan(line: &[u8]) -> Result<(), usize>
-    ensures { Scans line.now result }
-{
-    let mut part = Part::Start;
-    for (i, byte) in line.iter().enumerate() {
-        match next(part, *byte) {
-            Some(more) => part = more,
-            None => return Err(i),
+    ghost part_after = { next_part };
+
+    ghost is_last = { ends };
+
+    ghost lawful = { Line };
+
+    fn start() -> Part {
+        Part::Start
+    }
+
+    fn next(self, byte: u8) -> Option<Part> {
+        match self {
+            Part::Start if is_letter(byte) => Some(Part::Name),
+            Part::Blank if is_letter(byte) => Some(Part::Wider),
+            Part::Name | Part::Wider if is_name_byte(byte) => Some(self),
+            Part::Name | Part::Wider if byte == b' ' => Some(Part::Blank),
+            _ => None,
         }
     }
-    match part {
-        Part::Wider => Ok(()),
-        _ => Err(line.len()),
+
+    fn may_end(self) -> bool {
+        matches!(self, Part::Wider)
     }
+
+    ghost laws = { decided };
 }
 
 // The first byte at which no lawful line goes on, the line's length where it only ends too early, or none for a lawful line.
 pub fn break_at(line: &[u8]) -> Option<usize>
     ensures { Scanned line.now result }
 {
-    match scan(line) {
-        Ok(()) => None,
-        Err(place) => Some(place),
-    }
+    scanning::break_at::<Part>(line)
 }
 
-// The first byte that goes on no name from the line's front.
-fn first_outside(line: &[u8]) -> Option<usize>
-    ensures { FirstOutside line.now result }
-{
-    for (i, byte) in line.iter().enumerate() {
-        let goes_on = if i == 0 {
-            is_letter(*byte)
-        } else {
-            is_name_byte(*byte)
-        };
-        if !goes_on {
-            return Some(i);
-        }
-    }
-    None
-}
-
-// How many bytes the longest name has that the line begins with: 0 where there is none.
+// How many bytes the longest name has that the line begins with. 0 is a length here: the name of no bytes.
+#[tactic(auto, using(crate::proofs::Scanning::no_name, crate::proofs::Scanning::longest_name))]
 pub fn name_end(line: &[u8]) -> usize
     ensures { NameEnd line.now result }
 {
-    match first_outside(line) {
-        Some(end) => end,
-        None => line.len(),
+    match line {
+        [first, ..] if is_letter(*first) => first_outside(line).unwrap_or(line.len()),
+        _ => 0,
     }
 }
 
-// The first blank at `start` or past it.
-fn next_blank(line: &[u8], start: usize) -> Option<usize>
-    ensures { NextBlank line.now start result }
+// The first byte that no name has. It stands alone, since what a chain answers is proved where the chain ends a function.
+fn first_outside(line: &[u8]) -> Option<usize>
+    ensures { result ≡ position (λ b. not (name_character b)) line.now }
 {
-    for i in start..line.len() {
-        if line[i] == b' ' {
-            return Some(i);
-        }
-    }
-    None
+    line.iter().position(|byte| !is_name_byte(*byte))
 }
 
-// Where a word ends that begins at `start`: the next blank, or the end of the line.
+// Where a word ends that begins at `start`: the next blank, or the end of the line, a place that the clause promises.
+#[tactic(auto, using(crate::proofs::Scanning::no_word))]
 pub fn word_end(line: &[u8], start: usize) -> usize
     ensures { WordEnd line.now start result }
 {
-    match next_blank(line, start) {
-        Some(blank) => blank,
+    match line.get(start..) {
+        Some(rest) => start + first_blank(rest).unwrap_or(rest.len()),
         None => line.len(),
     }
 }

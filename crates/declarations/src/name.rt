@@ -1,12 +1,16 @@
-// The name of a kind.
-ghost use Rattle.std.specs.Prelude.{◌≤◌};
+// The name of a kind or a feature.
+ghost use Rattle.std.specs.Prelude.{◌≤◌, length};
+
+use short_lists::ShortList;
 
 pub mod methods;
 
-// At most 24 bytes. Those past `len` mean nothing.
+// How many bytes the name of a kind, a feature or a variable may have.
+pub const LONGEST_NAME: usize = 24;
+
+// At most so many bytes, in memory of its own.
 #[derive(Clone, Copy)]
 pub struct Name {
-    pub bytes: [u8; 24],
-    pub len: usize,
-    ghost few: { len ≤ 24 },
+    pub text: ShortList<u8, LONGEST_NAME>,
+    ghost few: { length text.items ≤ 24 },
 }

@@ -1,10 +1,12 @@
-// Worked examples over orders, lists of kinds, bands, pairs, features and terms: all of them tests, to be read first.
+// Worked examples over orders, lists of kinds, bands, pairs, features, terms and texts: all of them tests, to be read first.
 #![tactic(auto)]
 
 #[cfg(test)]
 mod declared;
 #[cfg(test)]
 mod descriptions;
+#[cfg(test)]
+mod held;
 #[cfg(test)]
 mod lists;
 #[cfg(test)]
@@ -13,3 +15,7 @@ mod narrowed;
 mod pairs;
 #[cfg(test)]
 mod printed;
+#[cfg(test)]
+mod scanned;
+#[cfg(test)]
+mod set;

@@ -183,11 +183,11 @@ fn names_have_at_most_24_bytes_up_to_where_the_grammar_fails(rt: HostRuntime) {
 }
 
 #[test]
-fn a_list_has_at_most_63_declared_kinds(rt: HostRuntime) {
+fn a_list_has_at_most_63_declared_kinds(rt: HostRuntime) -> Result<(), Fail> {
     let mut draft = Draft::new();
-    for i in 0..63u8 {
-        let line = [b'k', b'0' + i / 10, b'0' + i % 10, b' ', b'a', b'n', b'y'];
-        assert_eq!(rt; draft.declare(&line), Ok(usize::from(i) + 1));
+    for i in 0..63usize {
+        let line = format!(in rt.alloc(); "k{i:02} any")?;
+        assert_eq!(rt; draft.declare(line.as_bytes()), Ok(i + 1));
     }
     assert_eq!(rt;
         draft.declare(b"one_more any"),
@@ -198,18 +198,16 @@ fn a_list_has_at_most_63_declared_kinds(rt: HostRuntime) {
         draft.declare(b"against  any"),
         Err(Refusal::Grammar { place: 8 })
     );
+    Ok(())
 }
 
 #[test]
 fn a_line_has_at_most_1000_bytes(rt: HostRuntime) -> Result<(), Fail> {
-    // `cc` and 249 times ` any`: 998 bytes
+    // `cc` and 249 times ` any`: 998 bytes, and then blanks
     let mut line = [b' '; 1001];
-    line[0] = b'c';
-    line[1] = b'c';
-    for i in 0..249 {
-        line[4 * i + 3] = b'a';
-        line[4 * i + 4] = b'n';
-        line[4 * i + 5] = b'y';
+    line[..2].copy_from_slice(b"cc");
+    for word in line[2..998].chunks_exact_mut(4) {
+        word.copy_from_slice(b" any");
     }
     assert_eq!(rt; two().declare(&line[0..998]), Ok(3));
     assert_eq!(rt;

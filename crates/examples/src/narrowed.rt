@@ -1,8 +1,8 @@
 // Narrowing two kinds on a line.
 use bands::order::Bands;
-use kinds::list::shipped::shipped;
 use narrowing::report::report;
 use orders::pair::Pair;
+use settings::amounts;
 use std::test::Fail;
 
 const TWO: Pair<Bands, Bands> = Pair {
@@ -12,11 +12,7 @@ const TWO: Pair<Bands, Bands> = Pair {
 
 #[test]
 fn returned_by_direct_debit(rt: HostRuntime) -> Result<(), Fail> {
-    let order = Pair {
-        first: shipped(),
-        second: Bands,
-    };
-    let text = report(&order, b"by_dd/-10..0 returned/-5..5", rt.alloc())?;
+    let text = report(&amounts(), b"by_dd/-10..0 returned/-5..5", rt.alloc())?;
     assert!(rt;
         text.as_slice() == b"by_dd/-10..0 and returned/-5..5: returned_dd/-5..0".as_slice()
     );

@@ -1,20 +1,11 @@
 // Pairs, and pairs of pairs.
 use bands::band::Band;
 use bands::order::Bands;
-use kinds::list::List;
-use kinds::list::shipped::shipped;
 use orders::order::Order;
 use orders::pair::{Both, Pair};
 use orders::texts::WrittenOrder;
+use settings::amounts;
 use std::test::Fail;
-
-// Kinds of lines with their amounts.
-fn amounts() -> Pair<List, Bands> {
-    Pair {
-        first: shipped(),
-        second: Bands,
-    }
-}
 
 fn kind(number: usize, low: i64, high: i64) -> Both<usize, Band> {
     Both {

@@ -1,5 +1,6 @@
 -- Declaring a line: which refusal it has, or that it is accepted; and that it has one outcome.
-use Rattle.std.proofs.Common.{◌≡◌, ℕ, ◌+◌, ◌-◌, ◌<◌, ◌≤◌, true, false, ◌⊎◌, List, [], ◌∷◌, ◌++◌, length, take, drop, Ok, Err, Result, sym, refl, ap, ◌∙◌, subst, inl, inr, arith, length-take}
+use Rattle.std.proofs.Common.{◌≡◌, ℕ, ◌+◌, ◌<◌, ◌≤◌, true, false, ◌⊎◌, List, [], ◌∷◌, ◌++◌, length, take, drop, Some, Ok, Err, Option, Result, sym, refl, ap, ◌∙◌, subst, inl, inr, arith}
+use Rattle.std.specs.Option.{is_some}
 use Rattle.std.proofs.lemmas.List.{take-append-drop, length-take-le, take_all, append-nil}
 use Rattle.std.proofs.lemmas.Bool.{and_parts, and_from, both_ways, cases_lt}
 use Rattle.refusals.specs.declared.Refusal.{Refusal}
@@ -8,10 +9,12 @@ use Rattle.refusals.specs.Places.{GoesOn, Breaks}
 use Rattle.refusals.proofs.Broken.{breaks-apart, breaks-same}
 use Rattle.refusals.proofs.Known.{same_refusal}
 use Rattle.declarations.specs.declared.name.Name.{Name}
-use Rattle.declarations.specs.Held.{name_bytes}
-use Rattle.declarations.specs.Names.{is_name, letter, name_byte, all_name, listed}
+use Rattle.declarations.specs.Held.{name_bytes, Holds}
+use Rattle.declarations.specs.Names.{is_name, letter, name_byte, all_name}
 use Rattle.declarations.specs.Lines.{LongName, NameEnd}
 use Rattle.declarations.proofs.Words.{name-some}
+use Rattle.features.specs.Model.{number_of}
+use Rattle.features.proofs.Held.{known_number}
 use Rattle.features.specs.Lines.{Lawful, TooMuch, Refuses, Accepts, Declares}
 
 all-front : (xs ys : List ℕ) → all_name (xs ++ ys) ≡ true → all_name xs ≡ true
@@ -23,10 +26,6 @@ all-front (x ∷ xs) ys a = let p = and_parts (name_byte x) _ a in and_from _ _ 
 pub name-front : (xs ys : List ℕ) → 0 < length xs → is_name (xs ++ ys) ≡ true → is_name xs ≡ true
 name-front [] ys l n = absurd (omega arith)
 name-front (x ∷ xs) ys l n = let p = and_parts (letter x) _ n in and_from _ _ p.0 (all-front xs ys p.1)
-
--- the front of a line, as the code cuts it
-pub front_cut : (line : List ℕ) (end : ℕ) → take (end - 0) line ≡ take end line
-front_cut line end = let e : end - 0 ≡ end = omega arith in ap (λ n. take n line) e
 
 -- where the longest name at a line's front ends, the line goes on no more, or is over
 module _ (line : List ℕ) (end : ℕ) (n : NameEnd line end) where
@@ -42,6 +41,9 @@ module _ (line : List ℕ) (end : ℕ) (n : NameEnd line end) where
         long = l;
         whole = sym (take-append-drop end line);
       }
+
+  pub refuses_long : (features : List (List ℕ)) → 24 < length (take end line) → Refuses features line (Limit 0)
+  refuses_long features l = inl (inr (inl (long-name l)), refl)
 
   front_goes_on : GoesOn Lawful (take end line)
   unfolding all_name
@@ -73,15 +75,11 @@ module _ (line : List ℕ) (end : ℕ) (n : NameEnd line end) where
   pub lawful : 0 < end → length line ≤ end → Lawful line
   lawful h l = subst Lawful (take_all end line l) (n.name h)
 
--- a name in memory is short
-name_short : (n : Name) → length (name_bytes n) ≤ 24
-name_short n = omega (arith, length-take n.len n.bytes, n.few)
-
 -- what is known once the name at the line's front is held
 module _ (features : List (List ℕ)) (line : List ℕ) (end : ℕ) (n : NameEnd line end) (fits : length line ≤ 1000)
-    (name : Name) (held : name_bytes name ≡ take (end - 0) line) where
+    (name : Name) (held : Holds (take end line) (Some name)) where
   short : end ≤ 24
-  short = omega (arith, name_short name, ap length (held ∙ front_cut line end), end-length line end n)
+  short = omega (arith, held.0, end-length line end n)
 
   -- no reason of the first kind
   not_much : (Lawful line → length features < 16) → TooMuch features line → ⊥
@@ -89,9 +87,9 @@ module _ (features : List (List ℕ)) (line : List ℕ) (end : ℕ) (n : NameEnd
   not_much f (inr (inl h)) = omega (arith, short, n.most h.name h.rest h.named h.whole, h.long)
   not_much f (inr (inr h)) = omega (arith, f h.0, h.1)
 
-  pub refuses_grammar : (end ≡ 0) ⊎ (end < length line) → Refuses features line (Grammar end)
+  pub refuses_grammar : (end ≡ 0) ⊎ ((end ≡ 0 → ⊥) × (end < length line)) → Refuses features line (Grammar end)
   refuses_grammar s =
-      let b = stops line end n s in
+      let b = stops line end n (elim s [ inl z ↦ inl z | inr h ↦ inr h.1 ]) in
       inr (inl (not_much (λ l. absurd (breaks-apart Lawful line end b l)), end, b, refl))
 
   module _ (some : 0 < end) (whole : length line ≤ end) where
@@ -101,14 +99,16 @@ module _ (features : List (List ℕ)) (line : List ℕ) (end : ℕ) (n : NameEnd
     pub refuses_full : 16 ≤ length features → Refuses features line (Limit 0)
     refuses_full l = inl (inr (inr (law, l)), refl)
 
-    pub refuses_known : length features < 16 → listed line features ≡ true → Refuses features line (Word 0)
-    refuses_known l k = inr (inr (not_much (λ _. l), law, k, refl))
+    module _ (room : length features < 16) (o : Option ℕ) (found : o ≡ number_of line features) where
+      pub refuses_known : is_some o ≡ true → Refuses features line (Word 0)
+      refuses_known k = inr (inr (not_much (λ _. room), law, known_number line features o found ∙ k, refl))
 
-    pub line_accepted : length features < 16 → listed line features ≡ false → Accepts features line
-    line_accepted l u = record { lawful = law; within = not_much (λ _. l); fresh = u }
+      pub line_accepted : is_some o ≡ false → Accepts features line
+      line_accepted u =
+          record { lawful = law; within = not_much (λ _. room); fresh = known_number line features o found ∙ u }
 
     pub name_is : name_bytes name ≡ line
-    name_is = held ∙ front_cut line end ∙ take_all end line whole
+    name_is = held.1 ∙ take_all end line whole
 
 -- a line has one outcome
 module _ (features : List (List ℕ)) (line : List ℕ) where

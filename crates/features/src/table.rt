@@ -1,16 +1,19 @@
 // Declared features.
-ghost use Rattle.std.specs.Prelude.{◌≤◌};
+ghost use Rattle.std.specs.Prelude.{◌≤◌, length};
 
 use declarations::name::Name;
+use short_lists::ShortList;
 
 pub mod declares;
 pub mod lookups;
 
-// Feature f has the name `names[f]`.
+// How many features there may be.
+pub const MOST: usize = 16;
+
+// The names of the features, each at its number.
 #[derive(Clone, Copy)]
 pub struct Features {
-    count: usize,
-    names: [Name; 16],
+    names: ShortList<Name, MOST>,
     // there is room for them
-    ghost few: { count ≤ 16 },
+    ghost few: { length names.items ≤ 16 },
 }

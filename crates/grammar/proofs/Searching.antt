@@ -1,8 +1,11 @@
 -- A word is looked for among words from the first on.
-use Rattle.std.proofs.Common.{◌≡◌, ℕ, zero, suc, ◌<◌, true, false, ◌||◌, List, [], ◌∷◌, length, get_or, sym, refl, ap, ◌∙◌, inl, inr, arith}
+use Rattle.std.proofs.Common.{◌≡◌, ℕ, zero, suc, ◌+◌, ◌<◌, ltb, true, false, cond, ◌||◌, List, [], ◌∷◌, map, length, get_or, Some, None, sym, refl, ap, ◌∙◌, inl, inr, arith}
+use Rattle.std.specs.List.{position, position_or_len}
+use Rattle.std.proofs.lemmas.List.{length-map}
+use Rattle.std.proofs.lemmas.List.Recursion.{is_position_or_len}
 use Rattle.std.specs.Str.{bytes_eq}
 use Rattle.std.proofs.lemmas.Slice.Eq.{bytes_eq-Decides}
-use Rattle.std.proofs.lemmas.Bool.{cond-true, cond-false, cases_Bool, or_left, or_right, or_from, false≢true}
+use Rattle.std.proofs.lemmas.Bool.{cond-true, cond-false, cases_Bool, lt-ltb, le-ltb, or_left, or_right, or_from, false≢true}
 use Rattle.declarations.specs.Names.{listed}
 use Rattle.grammar.specs.Told.{index}
 
@@ -60,3 +63,21 @@ unlisted_past (v ∷ vs) w h =
           let m : listed w vs ≡ false = sym (ap (λ b. b || listed w vs) f) ∙ h in
           cond-false (bytes_eq w v) 0 _ f ∙ ap suc (unlisted_past vs w m)
     ]
+
+-- the same as the library's search says it, in a list whose items have words
+module _ {X : Type 0} (f : X → List ℕ) (w : List ℕ) (xs : List X) where
+  pub index_position : index w (map f xs) ≡ position_or_len (λ x. bytes_eq w (f x)) xs
+  unfolding index
+  index_position = is_position_or_len (λ ys. index w (map f ys)) (λ x. bytes_eq w (f x)) refl (λ x ys. let n : suc (index w (map f ys)) ≡ 1 + index w (map f ys) = omega arith in ap (λ n. cond (bytes_eq w (f x)) 0 n) n) xs
+
+  pub listed_within : ltb (position_or_len (λ x. bytes_eq w (f x)) xs) (length xs) ≡ listed w (map f xs)
+  listed_within =
+      let i = index_position in
+      let n = length-map xs f in
+      elim (cases_Bool (listed w (map f xs))) [
+        | inl h ↦ lt-ltb _ _ (omega (arith, i, n, (listed-stands (map f xs) w h).0)) ∙ sym h
+        | inr h ↦ le-ltb _ _ (omega (arith, i, n, unlisted_past (map f xs) w h)) ∙ sym h
+      ]
+
+  pub number_position : position (λ x. bytes_eq w (f x)) xs ≡ cond (listed w (map f xs)) (Some (index w (map f xs))) None
+  number_position = ap (λ b. cond b (Some (position_or_len (λ x. bytes_eq w (f x)) xs)) None) listed_within ∙ ap (λ i. cond (listed w (map f xs)) (Some i) None) (sym index_position)

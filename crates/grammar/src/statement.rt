@@ -1,5 +1,10 @@
 // The statements of a term, over its variables, which count from 0.
 
+// How many variables and statements a lawful line has at most.
+pub const MOST_VARIABLES: usize = 200;
+
+pub const MOST_STATEMENTS: usize = 399;
+
 #[derive(Clone, Copy, PartialEq, Eq, Debug)]
 pub enum Statement<K> {
     // The variable is at or under the kind.

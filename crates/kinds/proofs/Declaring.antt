@@ -1,5 +1,5 @@
 -- Declaring a line: which refusal it has, or what it declares.
-use Rattle.std.proofs.Common.{◌≡◌, ℕ, ◌-◌, ◌<◌, ◌≤◌, true, List, [], ◌∷◌, ◌++◌, length, get_or, take, drop, Ok, Err, filter, sym, refl, ap, ◌∙◌, subst, inl, inr, arith, length-take}
+use Rattle.std.proofs.Common.{◌≡◌, ℕ, ◌<◌, ◌≤◌, true, List, [], ◌∷◌, ◌++◌, length, get_or, take, drop, Some, Ok, Err, filter, sym, refl, ap, ◌∙◌, subst, inl, inr, arith}
 use Rattle.std.specs.List.{range_with_len, AllByRecursion}
 use Rattle.std.specs.Str.{bytes_eq}
 use Rattle.std.proofs.lemmas.Slice.Eq.{bytes_eq-Decides}
@@ -9,7 +9,7 @@ use Rattle.refusals.specs.declared.Refusal.{Refusal}
 use Rattle.refusals.specs.declared.Refusal.TheVariants.{Grammar}
 use Rattle.refusals.specs.Table.{row}
 use Rattle.declarations.specs.declared.name.Name.{Name}
-use Rattle.declarations.specs.Held.{name_bytes}
+use Rattle.declarations.specs.Held.{name_bytes, Holds}
 use Rattle.declarations.specs.Names.{is_name, listed}
 use Rattle.declarations.specs.Declarations.{Declaration, name_of, follows, all_below}
 use Rattle.declarations.specs.Lines.{tail, Line, Breaks, LongName, TooMuch, Known, Unknown, FirstUnknown, numbers, Accepts, Refuses}
@@ -17,8 +17,10 @@ use Rattle.declarations.specs.Rows.{bit, members}
 use Rattle.declarations.proofs.Sound.{listed_is}
 use Rattle.declarations.proofs.Words.{name-some, name_at, blank_apart}
 use Rattle.refusals.proofs.Broken.{breaks-apart}
+use Rattle.kinds.specs.declared.table.Kind.{Kind}
 use Rattle.kinds.specs.Model.{Gathers}
-use Rattle.kinds.proofs.Members.{members_below, members-some, kept_same}
+use Rattle.kinds.specs.Stored.{declaration}
+use Rattle.kinds.proofs.Members.{members_below, members-some, members_few, kept_same}
 
 module _ (line : List ℕ) (end : ℕ) (within : end ≤ length line)
     (name : 0 < end → is_name (take end line) ≡ true)
@@ -96,10 +98,6 @@ module _ (ds : List Declaration) (n : ℕ) (size : length ds ≡ n) (ws : List (
       kept_same (bit mask) (λ k. listed (name_of ds k) ws) 0 n (λ k _ l. g.2 k (omega arith))
       ∙ ap (λ m. filter (λ k. listed (name_of ds k) ws) (range_with_len 0 m)) (sym size)
 
--- a name in memory is short
-pub name_short : (n : Name) → length (name_bytes n) ≤ 24
-name_short n = omega (arith, length-take n.len n.bytes, n.few)
-
 -- what is known once the line's first word is held
 pub record Begun (line : List ℕ) (end : ℕ) : Type 0 where
   pub fits : length line ≤ 1000
@@ -108,18 +106,14 @@ pub record Begun (line : List ℕ) (end : ℕ) : Type 0 where
   pub most : (w rest : List ℕ) → is_name w ≡ true → line ≡ w ++ rest → length w ≤ end
   pub short : length (take end line) ≤ 24
 
--- the first word, as the code cuts it
-pub first_cut : (line : List ℕ) (end : ℕ) → take (end - 0) line ≡ take end line
-first_cut line end = let e : end - 0 ≡ end = omega arith in ap (λ n. take n line) e
-
-pub begins : (line : List ℕ) (end : ℕ) → length line ≤ 1000 → end ≤ length line → (0 < end → is_name (take end line) ≡ true) → ((w rest : List ℕ) → is_name w ≡ true → line ≡ w ++ rest → length w ≤ end) → (n : Name) → name_bytes n ≡ take (end - 0) line → Begun line end
+pub begins : (line : List ℕ) (end : ℕ) → length line ≤ 1000 → end ≤ length line → (0 < end → is_name (take end line) ≡ true) → ((w rest : List ℕ) → is_name w ≡ true → line ≡ w ++ rest → length w ≤ end) → (n : Name) → Holds (take end line) (Some n) → Begun line end
 begins line end fits within name most n held =
     record {
       fits = fits;
       within = within;
       name = name;
       most = most;
-      short = omega (arith, name_short n, ap length (held ∙ first_cut line end));
+      short = held.0;
     }
 
 module _ (ds : List Declaration) (line : List ℕ) (end : ℕ) (b : Begun line end) where
@@ -146,18 +140,23 @@ module _ (ds : List Declaration) (line : List ℕ) (end : ℕ) (b : Begun line e
         let at : end ≡ length l.name = end_is line end b.within b.name b.most l in
         inr (inr (not_much_here, (l, p, inr (subst (Unknown ds) first_word u, subst (λ x. FirstUnknown ds x l.wider p) at f), is)))
 
-    module _ (mask : ℕ) (g : Gathers ds end l.wider (Ok mask)) (n : ℕ) (size : length ds ≡ n) where
-      pub line_follows : Unknown ds (take end line) → (name : List ℕ) → name ≡ take end line → follows ds (record { name = name; wider = members n mask }) ≡ true
-      line_follows u name e =
-          may_follow ds n size l.wider l.some mask end g name (ap is_name (e ∙ first_word) ∙ l.named) (subst (Unknown ds) (sym e) u)
+    -- what an accepted line declares, as a kind in memory
+    module _ (kind : Kind) (g : Gathers ds end l.wider (Ok kind.wider)) (u : Unknown ds (take end line)) (name : name_bytes kind.name ≡ take end line) where
+      same_wider : members 64 kind.wider ≡ members (length ds) kind.wider
+      same_wider = members_few (length ds) kind.wider g.1 (omega arith)
 
-      pub line_accepted : Unknown ds (take end line) → (name : List ℕ) → name ≡ take end line → Accepts 64 ds line (record { name = name; wider = members n mask })
-      line_accepted u name e =
+      pub line_follows : follows ds (declaration kind) ≡ true
+      line_follows =
+          subst (λ ks. follows ds (record { name = name_bytes kind.name; wider = ks }) ≡ true) (sym same_wider)
+          (may_follow ds (length ds) refl l.wider l.some kind.wider end g (name_bytes kind.name) (ap is_name (name ∙ first_word) ∙ l.named) (subst (Unknown ds) (sym name) u))
+
+      pub line_accepted : Accepts 64 ds line (declaration kind)
+      line_accepted =
           record {
             words = l;
             within = not_much_here;
             fresh = subst (Unknown ds) first_word u;
             known = g.0;
-            name = e ∙ first_word;
-            wider = numbers_is ds n size l.wider l.some mask end g;
+            name = name ∙ first_word;
+            wider = same_wider ∙ numbers_is ds (length ds) refl l.wider l.some kind.wider end g;
           }

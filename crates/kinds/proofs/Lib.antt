@@ -1,10 +1,8 @@
-pub mod Memory
+pub mod Finding
 pub mod Gathering
-pub mod Marking
 pub mod Members
 pub mod Added
 pub mod Pairing
 pub mod Declaring
-pub mod Listing
 pub mod Ships
 pub mod Closed

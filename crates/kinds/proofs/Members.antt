@@ -6,7 +6,7 @@ use Rattle.std.proofs.lemmas.Nat.{pow_pos, pow_below}
 use Rattle.std.proofs.lemmas.Bool.{and_parts, and_from, or_cases, or_left, or_right, eqb-true, eq-eqb, ltb-true, lt-ltb, both_ways, cases_Bool, cases_eq}
 use Rattle.declarations.specs.Declarations.{among, all_below}
 use Rattle.declarations.specs.Rows.{bit, members, mask_of}
-use Rattle.declarations.proofs.Binary.{same_bits}
+use Rattle.declarations.proofs.Binary.{bit_past, same_bits}
 use Rattle.declarations.proofs.Grown.{bit_mask}
 
 module _ (p : ℕ → Bool) where
@@ -94,3 +94,20 @@ mask_members n mask l =
                 | inr g ↦ g ∙ sym f
               ]
         ]
+
+-- numbers whose bits cannot be set need not be looked at
+module _ (p : ℕ → Bool) where
+  none_kept : (a m : ℕ) → ((j : ℕ) → a ≤ j → p j ≡ false) → filter p (range_with_len a m) ≡ []
+  none_kept a zero h = refl
+  none_kept a (suc m) h =
+      ap (λ b. cond b (a ∷ filter p (range_with_len (a + 1) m)) (filter p (range_with_len (a + 1) m))) (h a (omega arith))
+      ∙ none_kept (a + 1) m (λ j l. h j (omega arith))
+
+  kept_front : (a n m : ℕ) → n ≤ m → ((j : ℕ) → a + n ≤ j → p j ≡ false) → filter p (range_with_len a m) ≡ filter p (range_with_len a n)
+  kept_front a zero m l h = none_kept a m (λ j k. h j (omega arith))
+  kept_front a (suc n) zero l h = absurd (omega arith)
+  kept_front a (suc n) (suc m) l h =
+      ap (λ xs. cond (p a) (a ∷ xs) xs) (kept_front (a + 1) n m (omega arith) (λ j k. h j (omega arith)))
+
+pub members_few : (n mask : ℕ) → mask < 2 ^ n → n ≤ 64 → members 64 mask ≡ members n mask
+members_few n mask l few = kept_front (bit mask) 0 n 64 few (λ j k. bit_past n mask j l (omega arith))

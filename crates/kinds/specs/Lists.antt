@@ -1,7 +1,7 @@
 -- Drafts and closed lists by their declarations: the order of a list, its texts, and closing.
 use Rattle.std.specs.Prelude.{◌≡◌, ℕ, ◌≤◌, true, List, [], ◌∷◌, length, Ok, Err, Result}
 use Rattle.std.proofs.Common.{sym, subst}
-use Rattle.std.proofs.lemmas.List.FromFn.{length-map-range_with_len}
+use Rattle.std.proofs.lemmas.List.{length-map}
 use Rattle.orders.specs.Meaning.{Meaning}
 use Rattle.orders.specs.Texts.{Texts}
 use Rattle.refusals.specs.declared.Refusal.{Refusal}
@@ -12,7 +12,7 @@ use Rattle.declarations.proofs.Ordered.{order_of}
 use Rattle.declarations.proofs.Named.{texts_of}
 use Rattle.kinds.specs.declared.draft.Draft.{Draft}
 use Rattle.kinds.specs.declared.list.List as closed_list
-use Rattle.kinds.specs.Stored.{stored_at}
+use Rattle.kinds.specs.Stored.{declaration}
 use Rattle.kinds.specs.Model.{kinds_of}
 
 -- a closed list
@@ -26,7 +26,7 @@ abbrev pub listing : closed_list.List → List Declaration
 listing l = kinds_of l.table
 
 pub few_kinds : (l : closed_list.List) → length (listing l) ≤ 64
-few_kinds l = subst (λ n. n ≤ 64) (sym (length-map-range_with_len (stored_at l.table.names l.table.wider) 0 l.table.count)) l.table.few
+few_kinds l = subst (λ n. n ≤ 64) (sym (length-map l.table.kinds.items declaration)) l.table.few
 
 pub closed_rows : (l : closed_list.List) → closed 64 (rows_of (listing l)) ≡ true
 closed_rows l = subst (λ rows. closed 64 rows ≡ true) l.table.right l.closed

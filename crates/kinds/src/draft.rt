@@ -4,9 +4,8 @@ ghost use Rattle.declarations.specs.Declarations.{any};
 ghost use Rattle.kinds.specs.Lists.{drafted};
 ghost use Rattle.kinds.specs.Model.{kinds_of};
 
-use crate::table::Table;
-use declarations::name::Name;
-use declarations::name::methods::BLANK;
+use crate::table::{ANY, MOST, Table};
+use short_lists::ShortList;
 
 pub mod closes;
 pub mod declares;
@@ -17,27 +16,15 @@ pub struct Draft {
     table: Table,
 }
 
-// The name of kind 0.
-const ANY: Name = Name {
-    bytes: [
-        97, 110, 121, 0, 0, 0, 0, 0, 0, 0, 0, 0, 0, 0, 0, 0, 0, 0, 0, 0, 0, 0, 0, 0,
-    ],
-    len: 3,
-};
-
 // Kind 0 alone.
 fn any_alone() -> Table
     ensures { kinds_of result ≡ any ∷ [] }
 {
-    let mut names = [BLANK; 64];
-    names[0] = ANY;
-    let mut rows = [0; 64];
-    rows[0] = 1;
     Table {
-        count: 1,
-        names,
-        wider: [0; 64],
-        rows,
+        kinds: ShortList {
+            room: [ANY; MOST],
+            len: 1,
+        },
     }
 }
 

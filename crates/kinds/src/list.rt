@@ -1,5 +1,5 @@
 // A closed list of kinds.
-ghost use Rattle.std.specs.Prelude.{◌≡◌, true, take};
+ghost use Rattle.std.specs.Prelude.{◌≡◌, true, map};
 ghost use Rattle.declarations.specs.Rows.{closed as closing};
 
 use crate::table::Table;
@@ -13,5 +13,5 @@ pub mod texts;
 pub struct List {
     pub(crate) table: Table,
     // kinds with something under both have a widest such kind, the one with the lowest number
-    ghost closed: { closing 64 (take table.count table.rows) ≡ true },
+    ghost closed: { closing 64 (map (λ k. k.row) table.kinds.items) ≡ true },
 }

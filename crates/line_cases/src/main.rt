@@ -5,22 +5,13 @@
 #![tactic(auto)]
 
 use anyhow::anyhow;
-use bands::order::Bands;
-use features::table::Features;
-use grammar::statement::Statement;
-use kinds::list::shipped::shipped;
-use orders::pair::Pair;
+use grammar::statement::MOST_STATEMENTS;
+use listing::rows::Listing;
 use orders::texts::WrittenOrder;
-use refusals::Refusal;
+use settings::{amounts, features};
 use std::alloc::{AllocError, Global};
 use std::io::{BufRead, BufReader, Write};
 use terms::term::Term;
-
-// For how many statements there is room at first: the most that a line has.
-const ROOM: usize = 399;
-
-// How many bytes a kind's text has at most, with some to spare.
-const LONGEST_KIND: usize = 64;
 
 // A case: the number of its line in the input, a line of the language, and what is to come of it.
 #[derive(Clone, Copy)]
@@ -30,117 +21,44 @@ struct Case<'a> {
     expected: &'a str,
 }
 
-// The features, in their order.
-fn declared() -> Result<Features, Refusal> {
-    let mut features = Features::new();
-    for name in ["paid", "back", "for", "next", "a", "b", "f"] {
-        features.declare(name.as_bytes())?;
-    }
-    Ok(features)
-}
-
-// Adds a variable, as `X1` for the first.
-fn put_variable(variable: usize, text: &mut Vec<u8>, heap: Global) -> Result<(), AllocError> {
-    let number = variable.saturating_add(1);
-    let shown = format!(in heap; "X{number}")?;
-    text.extend_from_slice(shown.as_bytes())
-}
-
-// Adds a kind's text, or a question mark where it has none.
-fn put_kind<O: WrittenOrder>(
-    order: &O,
-    kind: O::Kind,
-    text: &mut Vec<u8>,
-) -> Result<(), AllocError> {
-    let mut memory = [0; LONGEST_KIND];
-    let count = order.write(kind, &mut memory).min(LONGEST_KIND);
-    if count == 0 {
-        return text.extend_from_slice(b"?");
-    }
-    text.extend_from_slice(&memory[..count])
-}
-
-// Adds a feature's name, or a question mark where there is none.
-fn put_feature(features: &Features, feature: usize, text: &mut Vec<u8>) -> Result<(), AllocError> {
-    match features.name(feature) {
-        Some(name) => text.extend_from_slice(name.as_slice()),
-        None => text.extend_from_slice(b"?"),
-    }
-}
-
-// Adds a statement, as `X1:any/1..9` or `X1.paid=X2`.
-fn put_statement<O: WrittenOrder>(
-    order: &O,
-    features: &Features,
-    statement: Statement<O::Kind>,
-    text: &mut Vec<u8>,
-    heap: Global,
-) -> Result<(), AllocError> {
-    match statement {
-        Statement::Kind { variable, kind } => {
-            put_variable(variable, text, heap)?;
-            text.extend_from_slice(b":")?;
-            put_kind(order, kind, text)
-        }
-        Statement::Feature {
-            variable,
-            feature,
-            value,
-        } => {
-            put_variable(variable, text, heap)?;
-            text.extend_from_slice(b".")?;
-            put_feature(features, feature, text)?;
-            text.extend_from_slice(b"=")?;
-            put_variable(value, text, heap)
-        }
-    }
-}
-
 // The statements of a term, with one blank between.
-fn statements_text<K: Copy, O: WrittenOrder<Kind = K>>(
-    order: &O,
-    features: &Features,
-    term: &Term<K>,
+fn statements_text<O: WrittenOrder>(
+    listing: &Listing<'_, O>,
+    term: &Term<O::Kind>,
     heap: Global,
 ) -> Result<Vec<u8>, AllocError> {
     let mut text = Vec::new(heap);
+    // A term answers its statements by number.
     for number in 1..=term.statements() {
         if number > 1 {
-            text.extend_from_slice(b" ")?;
+            text.push(b' ')?;
         }
-        if let Some(statement) = term.statement(number) {
-            put_statement(order, features, statement, &mut text, heap)?;
-        }
+        listing.put_statement(term.statement(number).unwrap(), &mut text)?;
     }
     Ok(text)
 }
 
 // What comes of reading a line.
 fn outcome<K: Copy, O: WrittenOrder<Kind = K>>(
-    order: &O,
-    features: &Features,
+    listing: &Listing<'_, O>,
     term: &mut Term<K>,
     line: &[u8],
     heap: Global,
 ) -> Result<Vec<u8>, AllocError> {
-    match term.read(order, features, line) {
-        Ok(()) => statements_text(order, features, term, heap),
-        Err(refusal) => {
-            let text = format!(in heap; "!{refusal}")?;
-            Ok(text.into_bytes())
-        }
+    match term.read(listing.order, listing.features, line) {
+        Ok(()) => statements_text(listing, term, heap),
+        Err(refusal) => Ok(format!(in heap; "!{refusal}")?.into_bytes()),
     }
 }
 
 // Holds one case to its outcome, and prints the case where they differ.
 fn check_case<K: Copy, O: WrittenOrder<Kind = K>>(
     rt: &HostRuntime,
-    order: &O,
-    features: &Features,
+    listing: &Listing<'_, O>,
     term: &mut Term<K>,
     case: Case<'_>,
 ) -> anyhow::Result<bool> {
-    let got = outcome(order, features, term, case.line.as_bytes(), rt.alloc())?;
+    let got = outcome(listing, term, case.line.as_bytes(), rt.alloc())?;
     if got.as_slice() == case.expected.as_bytes() {
         return Ok(true);
     }
@@ -160,21 +78,19 @@ fn room_of(line: &str) -> anyhow::Result<usize> {
     }
 }
 
-fn run(rt: &HostRuntime) -> anyhow::Result<()> {
-    let order = Pair {
-        first: shipped(),
-        second: Bands,
+fn main(rt: HostRuntime) -> anyhow::Result<()> {
+    let order = amounts();
+    let features = features();
+    let listing = Listing {
+        order: &order,
+        features: &features,
     };
-    let Ok(features) = declared() else {
-        return Err(anyhow!("a feature is refused"));
-    };
-    let mut term = Term::new(rt.alloc(), ROOM)?;
-    let mut number = 0u64;
-    let mut cases = 0u64;
-    let mut agree = 0u64;
-    for text in BufReader::new(rt.alloc(), rt.stdin())?.lines(rt.alloc()) {
+    let mut term = Term::new(rt.alloc(), MOST_STATEMENTS)?;
+    // For each case, whether it agrees.
+    let mut cases = Vec::new(rt.alloc());
+    let lines = BufReader::new(rt.alloc(), rt.stdin())?.lines(rt.alloc());
+    for (number, text) in (1u64..).zip(lines) {
         let text = text?;
-        number = number.wrapping_add(1);
         match text.as_str().rsplit_once('\t') {
             Some((line, expected)) => {
                 let case = Case {
@@ -182,18 +98,13 @@ fn run(rt: &HostRuntime) -> anyhow::Result<()> {
                     line,
                     expected,
                 };
-                cases = cases.wrapping_add(1);
-                if check_case(rt, &order, &features, &mut term, case)? {
-                    agree = agree.wrapping_add(1);
-                }
+                cases.push(check_case(&rt, &listing, &mut term, case)?)?;
             }
             None => term = Term::new(rt.alloc(), room_of(text.as_str())?)?,
         }
     }
+    let agree = cases.iter().filter(|agrees| **agrees).count();
+    let cases = cases.len();
     println!(rt; "{agree} of {cases} agree")?;
     Ok(())
-}
-
-fn main(rt: HostRuntime) -> anyhow::Result<()> {
-    run(&rt)
 }

@@ -6,24 +6,19 @@
 -- a bare name gives `no statements`, and `any/1..9(loan=>X)` gives a mark under the place of the wrong word and then the refusal:
 --            ^
 --   refused 3 9
-use Rattle.std.specs.Prelude.{ℕ, ◌+◌, cond, List, [], ◌∷◌, ◌++◌, length, replicate, Some, None, Ok, Err, codes, decimal, Option, Result, nat_le, nat_lt, slice_index_or}
+use Rattle.std.specs.Prelude.{ℕ, ◌+◌, cond, List, [], ◌∷◌, ◌++◌, length, replicate, Ok, Err, codes, decimal, Result, nat_lt, slice_index_or}
 use Rattle.refusals.specs.declared.Refusal.{Refusal}
 use Rattle.refusals.specs.declared.Refusal.TheVariants.{Limit, Grammar, Word, Kind as NoKind, NoWidest, Memory, Cell, Feature as NoFeature, Full, Clash}
-use Rattle.refusals.specs.Table.{row, printed}
 use Rattle.orders.specs.Texts.{Texts}
 use Rattle.grammar.specs.declared.statement.Statement.{Statement}
 use Rattle.grammar.specs.declared.statement.Statement.TheVariants.{Kind, Feature}
 use Rattle.grammar.specs.declared.statement.Said.{Said}
 use Rattle.grammar.specs.Lawful.{statements}
+use Rattle.showing.specs.Shown.{kind_shown, refusal_shown}
 
 -- variables count from 0 and are printed from X1
 abbrev pub variable_shown : ℕ → List ℕ
 variable_shown x = codes "X" ++ decimal (x + 1)
-
--- a kind's text, or a question mark where it has none or one of over 256 bytes
-abbrev pub kind_shown : Option (List ℕ) → List ℕ
-kind_shown None = codes "?"
-kind_shown (Some t) = cond (nat_le (length t) 256) t (codes "?")
 
 -- a feature's name, or a question mark where no feature has the number
 abbrev pub feature_shown : List (List ℕ) → ℕ → List ℕ
@@ -42,6 +37,10 @@ module _ {K : Type 0} (m : Texts K) (features : List (List ℕ)) where
   unfoldable pub later_shown : ℕ → List (Statement K) → List ℕ
   later_shown n [] = []
   later_shown n (s ∷ ss) = 10 ∷ (row_shown n s ++ later_shown (n + 1) ss)
+
+  -- the same on a line of its own: a line feed before each but the first
+  abbrev pub line_shown : ℕ → Statement K → List ℕ
+  line_shown n s = cond (nat_lt 1 n) (10 ∷ row_shown n s) (row_shown n s)
 
   -- statements with the numbers from 1 on, a line feed between two
   abbrev pub said_shown : List (Statement K) → List ℕ
@@ -65,10 +64,11 @@ mark_of NoFeature = []
 mark_of Full = []
 mark_of (Clash s) = []
 
-abbrev pub refusal_shown : Refusal → List ℕ
-refusal_shown e = mark_of e ++ (codes "refused " ++ printed (row e))
+-- the refusal behind its mark
+abbrev pub marked_refusal : Refusal → List ℕ
+marked_refusal e = mark_of e ++ refusal_shown e
 
 -- the statements that a line gave, or its refusal
 abbrev pub shown : {K : Type 0} → Texts K → List (List ℕ) → List (Said K) → Result (Unit {0}) Refusal → List ℕ
 shown m features us (Ok _) = said_shown m features (statements us)
-shown m features us (Err e) = refusal_shown e
+shown m features us (Err e) = marked_refusal e

@@ -1,13 +1,14 @@
 // The text that tells what a line says.
 ghost use Rattle.std.specs.Prelude.{◌≡◌, IfOk, vec_items};
 ghost use Rattle.features.specs.Model.{feature_names};
-ghost use Rattle.listing.specs.Shown.{mark, mark_of, refusal_shown};
+ghost use Rattle.listing.specs.Shown.{mark, mark_of, marked_refusal};
 ghost use Rattle.listing.specs.Reports.{Reports};
 
-use crate::rows::said_text;
+use crate::rows::Listing;
 use features::table::Features;
 use orders::texts::WrittenOrder;
 use refusals::Refusal;
+use showing::put_refusal;
 use std::alloc::{AllocError, Global};
 use terms::term::Term;
 
@@ -22,7 +23,7 @@ pub fn report<K: Copy, O: WrittenOrder<Kind = K>>(
     ensures { Reports (O.texts order.now) (feature_names features.now) line.now term.old term.new vec_items result }
 {
     match term.read(order, features, line) {
-        Ok(()) => said_text(order, features, term, heap),
+        Ok(()) => Listing { order, features }.said_text(term, heap),
         Err(refusal) => refusal_text(refusal, heap),
     }
 }
@@ -31,8 +32,7 @@ pub fn report<K: Copy, O: WrittenOrder<Kind = K>>(
 fn mark_at(place: usize, heap: Global) -> Result<Vec<u8>, AllocError>
     ensures { IfOk result (λ v. v.items ≡ mark place) }
 {
-    let mut text = Vec::new(heap);
-    text.resize(place, b' ')?;
+    let mut text = vec![in heap; b' '; place]?;
     text.extend_from_slice(b"^\n")?;
     Ok(text)
 }
@@ -50,11 +50,11 @@ fn mark_of(refusal: Refusal, heap: Global) -> Result<Vec<u8>, AllocError>
     }
 }
 
+// The refusal behind its mark.
 fn refusal_text(refusal: Refusal, heap: Global) -> Result<Vec<u8>, AllocError>
-    ensures { IfOk result (λ v. v.items ≡ refusal_shown refusal) }
+    ensures { IfOk result (λ v. v.items ≡ marked_refusal refusal) }
 {
     let mut text = mark_of(refusal, heap)?;
-    let words = format!(in heap; "refused {refusal}")?;
-    text.extend_from_slice(words.as_bytes())?;
+    put_refusal(refusal, &mut text, heap)?;
     Ok(text)
 }

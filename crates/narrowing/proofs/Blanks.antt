@@ -1,9 +1,12 @@
 -- The first blank of a lawful line stands between its texts.
-use Rattle.std.proofs.Common.{◌≡◌, ℕ, ◌+◌, ◌<◌, ◌≤◌, true, List, ◌∷◌, length, get_or, take, drop, sym, refl, ap, ◌∙◌, inl, inr, arith, length-append}
+use Rattle.std.proofs.Common.{◌≡◌, ℕ, ◌+◌, ◌<◌, true, eqb, List, ◌∷◌, length, get_or, take, drop, position, unwrap_or, Option, sym, refl, ap, ◌∙◌, arith, length-append}
+use Rattle.std.specs.List.{position_or_len}
+use Rattle.std.proofs.lemmas.List.Sums.{position_or_len_is}
 use Rattle.std.proofs.lemmas.List.{get_or_at, get_or_append_left, take_at, drop_at, drop-drop}
 use Rattle.std.proofs.ByRecursion.{All-get_or}
-use Rattle.std.proofs.lemmas.Bool.{both_ways, cases_order}
+use Rattle.std.proofs.lemmas.Bool.{both_ways, eq-eqb, ne_eqb}
 use Rattle.orders.specs.Texts.{text_byte}
+use Rattle.orders.proofs.Parts.{first_or_end}
 use Rattle.narrowing.specs.Lines.{Line}
 
 -- a blank is in no text
@@ -23,15 +26,14 @@ module _ (line : List ℕ) (l : Line line) where
       ap (λ x. get_or x k 0) l.whole ∙ get_or_append_left l.first (32 ∷ l.second) 0 k h in
       blank_apart (get_or l.first k 0) (All-get_or (λ b. text_byte b ≡ true) l.first k 0 h l.first_text.1) (sym at ∙ b)
 
-  pub blank_found : (i : ℕ) → get_or line i 0 ≡ 32 → ((k : ℕ) → k < i → get_or line k 0 ≡ 32 → ⊥) → i ≡ length l.first
-  blank_found i b none =
-      elim (cases_order i (length l.first)) [
-        | inl h ↦ h
-        | inr o ↦ elim o [ inl h ↦ absurd (no_blank i h b) | inr h ↦ absurd (none (length l.first) h blank_here) ]
-      ]
+  blank_place : position_or_len (λ b. eqb b 32) line ≡ length l.first
+  blank_place =
+      position_or_len_is (λ b. eqb b 32) line (length l.first) 0 (omega (arith, line_length))
+      (λ k h. ne_eqb (get_or line k 0) 32 (no_blank k h)) (λ _. eq-eqb _ 32 blank_here)
 
-  pub blank_missed : (i : ℕ) → length line ≤ i → ((k : ℕ) → k < i → get_or line k 0 ≡ 32 → ⊥) → ⊥
-  blank_missed i h none = none (length l.first) (omega (arith, line_length)) blank_here
+  -- the first blank is what is looked for
+  pub blank_is : (r : Option ℕ) (n : ℕ) → r ≡ position (λ b. eqb b 32) line → n ≡ unwrap_or r (length line) → n ≡ length l.first
+  blank_is r n e f = first_or_end (λ b. eqb b 32) line r n e f ∙ blank_place
 
   -- the two texts, as parts of the line
   pub front_is : (n : ℕ) → n ≡ length l.first → take n line ≡ l.first
@@ -44,7 +46,7 @@ module _ (line : List ℕ) (l : Line line) where
 -- a line has these two texts and no others
 module _ (line : List ℕ) (l k : Line line) where
   same_length : length l.first ≡ length k.first
-  same_length = blank_found line k (length l.first) (blank_here line l) (no_blank line l)
+  same_length = sym (blank_place line l) ∙ blank_place line k
 
   pub same_first : l.first ≡ k.first
   same_first = sym (front_is line l (length l.first) refl) ∙ front_is line k (length l.first) same_length

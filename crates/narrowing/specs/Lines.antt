@@ -2,7 +2,7 @@
 --
 -- A line is a text, a blank and a text: `rent_dd/4000..4000 receipt/1..100000`.
 -- It breaks at a place: `rent`, at 4, since it ends too early; `rent  any`, at 5; `Rent any`, at 0; `rent any fee`, at 8.
-use Rattle.std.specs.Prelude.{◌≡◌, ℕ, List, ◌∷◌, ◌++◌, Some, None, Option}
+use Rattle.std.specs.Prelude.{◌≡◌, ℕ, List, ◌∷◌, ◌++◌}
 use Rattle.orders.specs.Texts.{IsText}
 use Rattle.refusals.specs.Places as places
 
@@ -14,15 +14,6 @@ pub record Line (line : List ℕ) : Type 0 where
   pub second_text : IsText second
   pub whole : line ≡ first ++ 32 ∷ second
 
--- some lawful line begins so
-abbrev pub GoesOn : List ℕ → Type 0
-GoesOn front = places.GoesOn Line front
-
 -- p is the first byte at which no lawful line goes on, or the length of a line that only ends too early
 abbrev pub Breaks : List ℕ → ℕ → Type 0
 Breaks line p = places.Breaks Line line p
-
--- whether a line is lawful, or where it breaks
-abbrev pub Scanned : List ℕ → Option ℕ → Type 0
-Scanned line None = Line line
-Scanned line (Some p) = Breaks line p

@@ -3,38 +3,19 @@
 -- Refused with 1 at 0: a line of over 1,000 bytes.
 -- Refused with 2: a line against the grammar, at the place where it breaks.
 -- Refused with 4: a text that no kind has, at its first byte, the first such text of the line.
-use Rattle.std.specs.Prelude.{◌≡◌, ℕ, ◌+◌, ◌<◌, cond, ◌⊎◌, List, [], ◌∷◌, length, Some, None, Ok, Err, Option, Result, ◌==◌, ◌≢◌}
+use Rattle.std.specs.Prelude.{◌≡◌, ℕ, ◌+◌, ◌<◌, ◌⊎◌, List, [], ◌∷◌, length, Some, Ok, Err, Result}
 use Rattle.orders.specs.Meaning.{Meaning}
 use Rattle.orders.specs.Texts.{Texts}
+use Rattle.orders.specs.Whole.{IsKind, NoKind, OnlyKind}
 use Rattle.refusals.specs.declared.Refusal.{Refusal}
 use Rattle.refusals.specs.Table.{row}
+use Rattle.narrowing.specs.declared.line.PlacedText.{PlacedText}
 use Rattle.narrowing.specs.declared.narrow.Narrowed.{Narrowed}
 use Rattle.narrowing.specs.Lines.{Line, Breaks}
 
 -- reason 1
 abbrev pub TooLong : List ℕ → Type 0
 TooLong line = 1000 < length line
-
--- some kind has this text, or none has
-abbrev pub IsKind : {K : Type 0} → Texts K → List ℕ → Type 0
-IsKind {K} m t = (k : K) × (m.text k ≡ Some t)
-
-abbrev pub NoKind : {K : Type 0} → Texts K → List ℕ → Type 0
-NoKind {K} m t = (k : K) → m.text k ≢ Some t
-
--- this kind has this text, and no other kind has it
-abbrev pub OnlyKind : {K : Type 0} → Texts K → List ℕ → K → Type 0
-OnlyKind {K} m t k = (m.text k ≡ Some t) × ((j : K) → m.text j ≡ Some t → j ≡ k)
-
--- the kind that has this text
-abbrev pub Reads : {K : Type 0} → Texts K → List ℕ → Option K → Type 0
-Reads m t (Some k) = OnlyKind m t k
-Reads m t None = NoKind m t
-
--- the kind that was read, if it took all of n bytes
-abbrev pub whole_kind : {K : Type 0} → Option (K × ℕ) → ℕ → Option K
-whole_kind (Some p) n = cond (p.1 == n) (Some p.0) None
-whole_kind None n = None
 
 -- the kind that has this text, or a refusal for reason 4 at this place
 abbrev pub ReadsAt : {K : Type 0} → Texts K → List ℕ → ℕ → Result K Refusal → Type 0
@@ -52,9 +33,16 @@ Unlawful line e =
     (TooLong line × (row e ≡ record { number = 1; values = 0 ∷ [] }))
     ⊎ ((TooLong line → ⊥) × ((p : ℕ) × Breaks line p × (row e ≡ record { number = 2; values = p ∷ [] })))
 
--- the bytes of the first text of a lawful line, a blank after them, or a refusal for reason 1 or 2
-abbrev pub Split : List ℕ → Result ℕ Refusal → Type 0
-Split line (Ok n) = (TooLong line → ⊥) × (l : Line line) × (n ≡ length l.first) × (n < length line)
+-- the two texts of a line, each with the place of its first byte
+pub record TextsOf (line : List ℕ) (l : Line line) (a b : PlacedText) : Type 0 where
+  pub first : a.text.now ≡ l.first
+  pub first_place : a.place ≡ 0
+  pub second : b.text.now ≡ l.second
+  pub second_place : b.place ≡ length l.first + 1
+
+-- the two texts of a lawful line, or a refusal for reason 1 or 2
+abbrev pub Split : List ℕ → Result (PlacedText × PlacedText) Refusal → Type 0
+Split line (Ok t) = (TooLong line → ⊥) × ((l : Line line) × TextsOf line l t.0 t.1)
 Split line (Err e) = Unlawful line e
 
 -- the refusal of a line: its reasons by number, each where no earlier one holds

@@ -2,16 +2,11 @@
 --
 -- `by_dd/-500..0 returned/-900..-100` gives `by_dd/-500..0 and returned/-900..-100: returned_dd/-500..-100`,
 -- `credit/1..9 debit/1..9` gives `credit/1..9 and debit/1..9: nothing can be both`, and a refused line gives as `refused 4 12`.
-use Rattle.std.specs.Prelude.{ℕ, cond, List, ◌++◌, length, Some, None, Ok, Err, codes, Option, Result, nat_le}
+use Rattle.std.specs.Prelude.{ℕ, List, ◌++◌, Some, None, Ok, Err, codes, Option, Result}
 use Rattle.orders.specs.Texts.{Texts}
 use Rattle.refusals.specs.declared.Refusal.{Refusal}
-use Rattle.refusals.specs.Table.{row, printed}
+use Rattle.showing.specs.Shown.{kind_shown, refusal_shown}
 use Rattle.narrowing.specs.declared.narrow.Narrowed.{Narrowed}
-
--- a kind's text, or a question mark where it has none or one of over 256 bytes
-abbrev pub kind_shown : Option (List ℕ) → List ℕ
-kind_shown None = codes "?"
-kind_shown (Some t) = cond (nat_le (length t) 256) t (codes "?")
 
 abbrev pub common_shown : {K : Type 0} → Texts K → Option K → List ℕ
 common_shown m (Some k) = kind_shown (m.text k)
@@ -19,9 +14,6 @@ common_shown m None = codes "nothing can be both"
 
 abbrev pub narrowed_shown : {K : Type 0} → Texts K → Narrowed K → List ℕ
 narrowed_shown m n = kind_shown (m.text n.first) ++ codes " and " ++ kind_shown (m.text n.second) ++ codes ": " ++ common_shown m n.common
-
-abbrev pub refusal_shown : Refusal → List ℕ
-refusal_shown e = codes "refused " ++ printed (row e)
 
 abbrev pub shown : {K : Type 0} → Texts K → Result (Narrowed K) Refusal → List ℕ
 shown m (Ok n) = narrowed_shown m n

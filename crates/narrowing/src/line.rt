@@ -1,17 +1,16 @@
 // A line with two kind texts: one byte of text or more, a blank, and one byte of text or more.
-ghost use Rattle.std.specs.Prelude.{◌≡◌, ◌<◌, length};
-ghost use Rattle.orders.specs.Texts.{text_byte};
-ghost use Rattle.narrowing.specs.Lines.{Line, Scanned};
-ghost use Rattle.narrowing.specs.Narrowing.{Split};
-ghost use Rattle.narrowing.specs.Scanner.{next_part};
+ghost use Rattle.std.specs.Prelude.{◌≡◌};
+ghost use Rattle.narrowing.specs.declared.line.Part.TheVariants.{Start};
+ghost use Rattle.narrowing.specs.Lines.{Line};
+ghost use Rattle.narrowing.specs.Narrowing.{Split, TextsOf};
+ghost use Rattle.narrowing.specs.Scanner.{next_part, ends};
+ghost use Rattle.narrowing.specs.Decided.{decided};
 
-use orders::texts::is_stop;
-use refusals::Refusal;
+use orders::texts::is_text_byte;
+use refusals::{LONGEST_LINE, Refusal};
+use scanning::{LinePart, break_at, first_blank};
 
-// How many bytes a line may have.
-const LONGEST: usize = 1000;
-
-// Where in the line a byte stands.
+// Where in the line a byte stands. Each grammar has parts of its own; what goes over them is generic.
 #[derive(Clone, Copy)]
 enum Part {
     Start,
@@ -20,64 +19,69 @@ enum Part {
     Second,
 }
 
-// A solidus, or a byte that the text of a single part has.
-fn is_text_byte(byte: u8) -> bool
-    ensures { result ≡ text_byte byte }
-{
-    !is_stop(byte) || byte == b'/'
-}
+// What may come next in a line, and where it may end: the cases of the grammar, which its law is about.
+impl LinePart for Part {
+    ghost first_part = { Start };
 
-// Where the next byte stands, or none where no lawful line has it there.
-fn next(part: Part, byte: u8) -> Option<Part>
-    ensures { result ≡ next_part part byte }
-{
-    match part {
-        Part::Start | Part::First if is_text_byte(byte) => Some(Part::First),
-        Part::Blank | Part::Second if is_text_byte(byte) => Some(Part::Second),
-        Part::First if byte == b' ' => Some(Part::Blank),
-        _ => None,
+    ghost part_after = { next_part };
+
+    ghost is_last = { ends };
+
+    ghost lawful = { Line };
+
+    fn start() -> Part {
+        Part::Start
     }
-}
 
-// The first byte at which no lawful line goes on, the line's length where it only ends too early, or none for a lawful line.
-fn break_at(line: &[u8]) -> Option<usize>
-    ensures { Scanned line.now result }
-{
-    let mut part = Part::Start;
-    for (i, byte) in line.iter().enumerate() {
-        match next(part, *byte) {
-            Some(more) => part = more,
-            None => return Some(i),
+    fn next(self, byte: u8) -> Option<Part> {
+        match self {
+            Part::Start | Part::First if is_text_byte(byte) => Some(Part::First),
+            Part::Blank | Part::Second if is_text_byte(byte) => Some(Part::Second),
+            Part::First if byte == b' ' => Some(Part::Blank),
+            _ => None,
         }
     }
-    match part {
-        Part::Second => None,
-        _ => Some(line.len()),
+
+    fn may_end(self) -> bool {
+        matches!(self, Part::Second)
     }
+
+    ghost laws = { decided };
 }
 
-// How many bytes stand before the first blank: in a lawful line, the first text.
-fn blank_at(line: &[u8]) -> usize
-    ensures first { (l : Line line.now) → result ≡ length l.first }
-    ensures within { Line line.now → result < length line.now }
-{
-    for (i, byte) in line.iter().enumerate() {
-        if *byte == b' ' {
-            return i;
-        }
-    }
-    line.len()
+// A text of a line, and the place of its first byte.
+#[derive(Clone, Copy)]
+pub struct PlacedText<'a> {
+    pub text: &'a [u8],
+    pub place: usize,
 }
 
-// The bytes of the first text of a lawful line within the limit.
-pub fn split(line: &[u8]) -> Result<usize, Refusal>
+// The two texts of a lawful line within the limit.
+pub fn split(line: &[u8]) -> Result<(PlacedText<'_>, PlacedText<'_>), Refusal>
     ensures { Split line.now result }
 {
-    if line.len() > LONGEST {
+    if line.len() > LONGEST_LINE {
         return Err(Refusal::Limit { place: 0 });
     }
-    match break_at(line) {
+    match break_at::<Part>(line) {
         Some(place) => Err(Refusal::Grammar { place }),
-        None => Ok(blank_at(line)),
+        None => Ok(texts(line)),
     }
+}
+
+// The two texts of a lawful line: what stands before its first blank and what stands after.
+fn texts(line: &[u8]) -> (PlacedText<'_>, PlacedText<'_>)
+    requires { Line line.now }
+    ensures { (l : Line line.now) × TextsOf line.now l result.0 result.1 }
+{
+    let blank = first_blank(line).unwrap_or(line.len());
+    let first = PlacedText {
+        text: &line[..blank],
+        place: 0,
+    };
+    let second = PlacedText {
+        text: &line[blank + 1..],
+        place: blank + 1,
+    };
+    (first, second)
 }

@@ -1,13 +1,12 @@
 // The two kinds of a line and the kind that they have in common, or why the line is refused.
-ghost use Rattle.std.specs.Prelude.{◌≡◌, ◌≤◌, length, Result};
-ghost use Rattle.std.specs.List.{between};
+ghost use Rattle.std.specs.Prelude.{◌≡◌, Result};
 ghost use Rattle.refusals.specs.declared.Refusal.{Refusal};
 ghost use Rattle.narrowing.specs.declared.narrow.Narrowed.{Narrowed};
-ghost use Rattle.narrowing.specs.Narrowing.{Narrows, Reads, ReadsAt, whole_kind};
+ghost use Rattle.narrowing.specs.Narrowing.{Narrows, ReadsAt};
 
-use crate::line::split;
-use orders::order::Order;
+use crate::line::{PlacedText, split};
 use orders::texts::WrittenOrder;
+use orders::whole::whole_kind;
 use refusals::Refusal;
 
 // Two kinds, and the widest kind at or under both if there is one.
@@ -24,58 +23,22 @@ pub fn narrow<O: WrittenOrder>(order: &O, line: &[u8]) -> Result<Narrowed<O::Kin
     ensures answer { Narrows (O.Order.meaning order.now) (O.texts order.now) line.now result }
     ensures fixed { (s : Result (Narrowed O.Kind) Refusal) → Narrows (O.Order.meaning order.now) (O.texts order.now) line.now s → s ≡ result }
 {
-    narrow_line(order, line)
-}
-
-// The two texts of the line in turn, and then what their kinds have in common.
-fn narrow_line<O: WrittenOrder>(order: &O, line: &[u8]) -> Result<Narrowed<O::Kind>, Refusal>
-    ensures answer { Narrows (O.Order.meaning order.now) (O.texts order.now) line.now result }
-    ensures fixed { (s : Result (Narrowed O.Kind) Refusal) → Narrows (O.Order.meaning order.now) (O.texts order.now) line.now s → s ≡ result }
-{
-    let blank = split(line)?;
-    let first = kind_at(order, line, 0, blank)?;
-    let second = kind_at(order, line, blank + 1, line.len())?;
-    Ok(with_common(order, first, second))
-}
-
-// The kind whose text stands from `start` to `end`.
-fn kind_at<O: WrittenOrder>(
-    order: &O,
-    line: &[u8],
-    start: usize,
-    end: usize,
-) -> Result<O::Kind, Refusal>
-    requires { (start ≤ end) × (end ≤ length line.now) }
-    ensures { ReadsAt (O.texts order.now) (between start end line.now) start result }
-{
-    match whole(order, &line[start..end]) {
-        Some(kind) => Ok(kind),
-        None => Err(Refusal::Kind { place: start }),
-    }
+    let (first, second) = split(line)?;
+    let first = kind_of(order, first)?;
+    let second = kind_of(order, second)?;
+    let common = order.common(first, second);
+    Ok(Narrowed {
+        first,
+        second,
+        common,
+    })
 }
 
 // The kind that has this text, all of it.
-fn whole<O: WrittenOrder>(order: &O, text: &[u8]) -> Option<O::Kind>
-    ensures { Reads (O.texts order.now) text.now result }
+fn kind_of<O: WrittenOrder>(order: &O, placed: PlacedText<'_>) -> Result<O::Kind, Refusal>
+    ensures { ReadsAt (O.texts order.now) placed.entry.text.now placed.entry.place result }
 {
-    all_taken(order.read(text), text.len())
-}
-
-// The kind that was read, if its text took all the bytes.
-fn all_taken<K: Copy>(read: Option<(K, usize)>, bytes: usize) -> Option<K>
-    ensures { result ≡ whole_kind read bytes }
-{
-    let (kind, taken) = read?;
-    if taken == bytes { Some(kind) } else { None }
-}
-
-// Two kinds with what they have in common.
-fn with_common<O: Order>(order: &O, first: O::Kind, second: O::Kind) -> Narrowed<O::Kind>
-    ensures { result ≡ record { first = first; second = second; common = (O.meaning order.now).common first second } }
-{
-    Narrowed {
-        first,
-        second,
-        common: order.common(first, second),
-    }
+    whole_kind(order, placed.text).ok_or(Refusal::Kind {
+        place: placed.place,
+    })
 }

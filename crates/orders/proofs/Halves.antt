@@ -1,6 +1,8 @@
 -- Reading a pair: what its parts read is what it reads.
-use Rattle.std.proofs.Common.{◌≡◌, ℕ, ◌+◌, ◌<◌, ◌≤◌, List, ◌∷◌, ◌++◌, length, get_or, drop, Some, None, Option, sym, refl, ap, ◌∙◌, append_assoc, arith, length-append}
-use Rattle.std.proofs.lemmas.List.{drop_more, drop_at, drop-drop, get_or_at}
+use Rattle.std.proofs.Common.{◌≡◌, ℕ, ◌+◌, ◌≤◌, true, false, eqb, List, [], ◌∷◌, ◌++◌, length, take, drop, nat_eq, Some, None, Option, sym, refl, ap, ◌∙◌, append_assoc, arith, length-append}
+use Rattle.std.proofs.lemmas.List.{drop_at, drop-drop}
+use Rattle.std.specs.Cmp.Lexicographic.{pointwise}
+use Rattle.std.proofs.lemmas.Bool.{both_ways, and_parts, eqb-true}
 use Rattle.orders.specs.declared.pair.Both.{Both}
 use Rattle.orders.specs.Texts.{Texts, Stands, Back}
 use Rattle.orders.specs.Pairs.{joined, pair_texts}
@@ -28,6 +30,15 @@ parts None None t e = absurd (omega (arith, no_text t e))
 -- what is read lies within the bytes
 pub stands-within : {K : Type 0} (m : Texts K) (bytes : List ℕ) (k : K) (n : ℕ) → Stands m bytes k n → n ≤ length bytes
 stands-within m bytes k n s = omega (arith, s.count, ap length s.whole, length-append s.front s.rest)
+
+-- bytes that begin with a solidus
+begins : (bytes : List ℕ) → pointwise nat_eq (take 1 bytes) (47 ∷ []) ≡ true → bytes ≡ 47 ∷ drop 1 bytes
+begins [] h = absurd (both_ways false refl h)
+begins (b ∷ bs) h = ap (λ x. x ∷ bs) (eqb-true b 47 (and_parts (eqb b 47) _ h).0)
+
+-- the bytes past a solidus
+pub past_solidus : (bytes after tail : List ℕ) (taken : ℕ) → after ≡ drop taken bytes → tail ≡ drop 1 after → tail ≡ drop (taken + 1) bytes
+past_solidus bytes after tail taken e d = d ∙ ap (drop 1) e ∙ drop-drop 1 taken bytes
 
 module _ {K L : Type 0} (m : Texts K) (n : Texts L) (bytes : List ℕ) where
   -- a pair's text in the bytes, by its parts
@@ -63,21 +74,18 @@ module _ {K L : Type 0} (m : Texts K) (n : Texts L) (bytes : List ℕ) where
     at_left : (x : Both K L) (t rest : List ℕ) (f : Found (Some (k, taken)) x t rest) → length f.left ≡ taken
     at_left x t rest f = sym (both-same _ _ _ _ f.first).1
 
-    past_left : (x : Both K L) (t rest : List ℕ) (f : Found (Some (k, taken)) x t rest) → drop (taken + 1) bytes ≡ f.right ++ rest
-    past_left x t rest f =
-        let e : drop taken bytes ≡ 47 ∷ (f.right ++ rest) =
-        ap (drop taken) f.whole ∙ drop_at f.left (47 ∷ (f.right ++ rest)) taken (at_left x t rest f) in
-        sym (drop-drop 1 taken bytes) ∙ ap (drop 1) e
+    at_solidus : (x : Both K L) (t rest : List ℕ) (f : Found (Some (k, taken)) x t rest) → drop taken bytes ≡ 47 ∷ (f.right ++ rest)
+    at_solidus x t rest f =
+        ap (drop taken) f.whole ∙ drop_at f.left (47 ∷ (f.right ++ rest)) taken (at_left x t rest f)
 
-    pub none_solidus : (taken < length bytes → get_or bytes taken 0 ≡ 47 → ⊥) → Back (pair_texts m n) bytes None
-    none_solidus h x t rest text s w =
+    past_left : (x : Both K L) (t rest : List ℕ) (f : Found (Some (k, taken)) x t rest) → drop (taken + 1) bytes ≡ f.right ++ rest
+    past_left x t rest f = sym (drop-drop 1 taken bytes) ∙ ap (drop 1) (at_solidus x t rest f)
+
+    pub none_solidus : (tail : List ℕ) → tail ≡ drop taken bytes → pointwise nat_eq (take 1 tail) (47 ∷ []) ≡ false → Back (pair_texts m n) bytes None
+    none_solidus tail d h x t rest text s w =
         let f = found (Some (k, taken)) back x t rest text w in
-        let e = at_left x t rest f in
-        let l : length bytes ≡ length f.left + length (47 ∷ (f.right ++ rest)) =
-        ap length f.whole ∙ length-append f.left (47 ∷ (f.right ++ rest)) in
-        let at : get_or bytes taken 0 ≡ 47 =
-        ap (λ b. get_or b taken 0) f.whole ∙ get_or_at f.left 47 (f.right ++ rest) 0 taken e in
-        absurd (h (omega arith) at)
+        let e : tail ≡ 47 ∷ (f.right ++ rest) = d ∙ at_solidus x t rest f in
+        absurd (both_ways false refl (sym h ∙ ap (λ y. pointwise nat_eq (take 1 y) (47 ∷ [])) e))
 
     pub none-second : (tail : List ℕ) (r : Option (L × ℕ)) → tail ≡ drop (taken + 1) bytes → r ≡ None → Back n tail r → Back (pair_texts m n) bytes None
     none-second tail r d e more x t rest text s w =
@@ -97,11 +105,11 @@ module _ {K L : Type 0} (m : Texts K) (n : Texts L) (bytes : List ℕ) where
         omega (arith, ap length f.text, length-append f.left (47 ∷ f.right), b.1) in
         λ i. Some (record { first = a i; second = b.0 i }, len i)
 
-  pub stands-both : (k : K) (l : L) (taken count : ℕ) (tail : List ℕ) → taken < length bytes → get_or bytes taken 0 ≡ 47 → tail ≡ drop (taken + 1) bytes → Stands m bytes k taken → Stands n tail l count → Stands (pair_texts m n) bytes (record { first = k; second = l }) (taken + 1 + count)
-  stands-both k l taken count tail lt at d a b =
+  pub stands-both : (k : K) (l : L) (taken count : ℕ) (after tail : List ℕ) → after ≡ drop taken bytes → pointwise nat_eq (take 1 after) (47 ∷ []) ≡ true → tail ≡ drop 1 after → Stands m bytes k taken → Stands n tail l count → Stands (pair_texts m n) bytes (record { first = k; second = l }) (taken + 1 + count)
+  stands-both k l taken count after tail e at d a b =
       let r : a.rest ≡ 47 ∷ (b.front ++ b.rest) =
-      sym (drop_at a.front a.rest taken (sym a.count)) ∙ ap (drop taken) (sym a.whole) ∙ drop_more bytes taken 0 lt
-      ∙ cc (at, d, b.whole) in
+      sym (drop_at a.front a.rest taken (sym a.count)) ∙ ap (drop taken) (sym a.whole) ∙ sym e ∙ begins after at
+      ∙ cc (d, b.whole) in
       record {
         front = a.front ++ 47 ∷ b.front;
         rest = b.rest;

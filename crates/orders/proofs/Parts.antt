@@ -1,19 +1,31 @@
--- A text's front and rest, byte by byte.
-use Rattle.std.proofs.Common.{◌≡◌, ℕ, ◌+◌, ◌<◌, ◌≤◌, true, List, ◌++◌, length, get_or, take, drop, set, ◌∙◌, append_assoc, arith}
-use Rattle.std.proofs.lemmas.List.{drop_more, drop_all, take_more, take_all, set_at, length-take-le}
-use Rattle.orders.specs.Texts.{Stops, stops}
+-- Where texts stop: the first byte that stops them.
+use Rattle.std.proofs.Common.{◌≡◌, ℕ, ◌+◌, Bool, not, ◌≤◌, false, List, [], ◌∷◌, length, position, unwrap_or, Option, add_comm, add-one, sym, ap, ◌∙◌, subst, inl, inr, arith}
+use Rattle.std.specs.List.{position_or_len}
+use Rattle.std.proofs.lemmas.List.Sums.{prefix_len-le-length}
+use Rattle.std.proofs.lemmas.Bool.{cases_Bool, cond-true, cond-false, cases_lt, lt-ltb, le-ltb}
+use Rattle.orders.specs.Texts.{Stopped, stops}
 
-pub stops-here : (bytes : List ℕ) (i : ℕ) → i < length bytes → stops (get_or bytes i 0) ≡ true → Stops (drop i bytes)
-stops-here bytes i l s = rw (drop_more bytes i 0 l) s
+-- one byte more, of a text of a single part
+past : (b : ℕ) (bs : List ℕ) (n : ℕ) → stops b ≡ false → Stopped bs n → Stopped (b ∷ bs) (1 + n)
+past b bs n f s = rw (add_comm 1 n, add-one) (record { within = omega (arith, s.within); before = (f, s.before); after = s.after })
 
-pub stops_past : (bytes : List ℕ) (i : ℕ) → length bytes ≤ i → Stops (drop i bytes)
-stops_past bytes i l = rw (drop_all i bytes l) tt
+stopped_here : (bytes : List ℕ) → Stopped bytes (position_or_len stops bytes)
+stopped_here [] = record { within = omega arith; before = tt; after = tt }
+stopped_here (b ∷ bs) =
+    elim (cases_Bool (stops b)) [
+      | inl t ↦ rw t (record { within = omega arith; before = tt; after = t })
+      | inr f ↦ rw f (past b bs _ f (stopped_here bs))
+    ]
 
--- one byte of a text copied over memory
-pub copied_more : (text memory : List ℕ) (i : ℕ) → i < length text → length text ≤ length memory → set (take i text ++ drop i memory) i (get_or text i 0) ≡ take (i + 1) text ++ drop (i + 1) memory
-copied_more text memory i l m =
-    let n : length (take i text) ≡ i = length-take-le i text (omega arith) in
-    rw (drop_more memory i 0 (omega arith), take_more text i 0 l, append_assoc) (set_at (take i text) _ (drop (i + 1) memory) (get_or text i 0) i n)
+-- the place of the first that passes, or the end
+pub first_or_end : {X : Type 0} (p : X → Bool) (xs : List X) (r : Option ℕ) (n : ℕ) → r ≡ position p xs → n ≡ unwrap_or r (length xs) → n ≡ position_or_len p xs
+first_or_end p xs r n e f =
+    let most : position_or_len p xs ≤ length xs = prefix_len-le-length (λ x. not (p x)) xs in
+    elim (cases_lt (position_or_len p xs) (length xs)) [
+      | inl l ↦ f ∙ ap (λ o. unwrap_or o (length xs)) (e ∙ cond-true _ _ _ (lt-ltb _ _ l))
+      | inr l ↦ let all : length xs ≡ position_or_len p xs = omega arith in f ∙ ap (λ o. unwrap_or o (length xs)) (e ∙ cond-false _ _ _ (le-ltb _ _ l)) ∙ all
+    ]
 
-pub copied_all : (text memory now : List ℕ) (i : ℕ) → i ≡ length text → now ≡ take i text ++ drop i memory → now ≡ text ++ drop (length text) memory
-copied_all text memory now i e h = h ∙ rw (e, take_all (length text) text (omega arith))
+-- where texts stop, by what looks for the first such byte
+pub stopped : (bytes : List ℕ) (r : Option ℕ) (n : ℕ) → r ≡ position stops bytes → n ≡ unwrap_or r (length bytes) → Stopped bytes n
+stopped bytes r n e f = subst (Stopped bytes) (sym (first_or_end stops bytes r n e f)) (stopped_here bytes)

@@ -28,11 +28,6 @@ pub record Stopped (bytes : List ℕ) (n : ℕ) : Type 0 where
   pub before : AllByRecursion (λ b. stops b ≡ false) (take n bytes)
   pub after : Stops (drop n bytes)
 
--- the first byte at which texts stop, or none before the end
-abbrev pub FirstStop : List ℕ → Option ℕ → Type 0
-FirstStop bytes (Some n) = Stopped bytes n
-FirstStop bytes None = Stopped bytes (length bytes)
-
 -- the text of each kind that has one
 pub record Texts (K : Type 0) : Type 0 where
   pub text : K → Option (List ℕ)

@@ -1,5 +1,5 @@
 -- A text that is the whole text of a kind.
-use Rattle.std.specs.Prelude.{◌≡◌, ℕ, cond, List, Some, None, Option, ◌==◌, ◌≢◌}
+use Rattle.std.specs.Prelude.{◌≡◌, ℕ, List, Some, None, Option, ◌≢◌}
 use Rattle.orders.specs.Texts.{Texts}
 
 -- some kind has this text, or none has
@@ -17,8 +17,3 @@ OnlyKind {K} m t k = (m.text k ≡ Some t) × ((j : K) → m.text j ≡ Some t �
 abbrev pub KindOf : {K : Type 0} → Texts K → List ℕ → Option K → Type 0
 KindOf m t (Some k) = OnlyKind m t k
 KindOf m t None = NoKind m t
-
--- the kind that was read, if it took all of n bytes
-abbrev pub whole_kind : {K : Type 0} → Option (K × ℕ) → ℕ → Option K
-whole_kind (Some p) n = cond (p.1 == n) (Some p.0) None
-whole_kind None n = None

@@ -4,6 +4,7 @@
 // `WrittenOrder`  an order that also reads and writes its kinds
 // `Pair`          two orders as one, compared part by part
 // `whole_kind`    the kind that has a text, all of it
+// `is_text_byte`  whether a kind's text may have this byte
 // `stop`, `put`   for those who implement `WrittenOrder`: where a text ends, and a text into memory
 #![tactic(auto)]
 

@@ -1,6 +1,5 @@
 // Two orders as one: a kind is a kind of each, and the parts are compared one by one.
 ghost use Rattle.orders.specs.Pairs.{paired, pair_texts};
-ghost use Rattle.orders.specs.Texts.{Back, Taken, Writes};
 
 use crate::order::Order;
 use crate::texts::WrittenOrder;
@@ -11,7 +10,7 @@ pub struct Pair<A, B> {
     pub second: B,
 }
 
-// A kind of a pair of orders.
+// A kind of a pair of orders. A public type that callers name, and by which a kind and an order are told apart.
 #[derive(Clone, Copy, PartialEq, Eq, Debug)]
 pub struct Both<A, B> {
     pub first: A,
@@ -46,48 +45,23 @@ impl<A: WrittenOrder, B: WrittenOrder> WrittenOrder for Pair<A, B> {
     ghost texts = { λ p. pair_texts (A.WrittenOrder.texts p.first) (B.WrittenOrder.texts p.second) };
 
     fn read(&self, bytes: &[u8]) -> Option<(Both<A::Kind, B::Kind>, usize)> {
-        read_pair(&self.first, &self.second, bytes)
+        let (first, taken) = self.first.read(bytes)?;
+        let rest = bytes[taken..].strip_prefix(b"/")?;
+        let (second, more) = self.second.read(rest)?;
+        Some((Both { first, second }, taken + 1 + more))
     }
 
+    // As the trait promises, no text or no room is the answer 0 and no error.
     fn write(&self, kind: Both<A::Kind, B::Kind>, memory: &mut [u8]) -> usize {
-        write_pair(&self.first, &self.second, kind, memory)
+        let first = self.first.write(kind.first, memory);
+        if first == 0 || first >= memory.len() {
+            return 0;
+        }
+        memory[first] = b'/';
+        let second = self.second.write(kind.second, &mut memory[first + 1..]);
+        if second == 0 {
+            return 0;
+        }
+        first + 1 + second
     }
-}
-
-// Reads the first part, a solidus and the second part.
-fn read_pair<A: WrittenOrder, B: WrittenOrder>(
-    a: &A,
-    b: &B,
-    bytes: &[u8],
-) -> Option<(Both<A::Kind, B::Kind>, usize)>
-    ensures read_back { Back (pair_texts (A.WrittenOrder.texts a.now) (B.WrittenOrder.texts b.now)) bytes.now result }
-    ensures taken { Taken (pair_texts (A.WrittenOrder.texts a.now) (B.WrittenOrder.texts b.now)) bytes.now result }
-{
-    let (first, taken) = a.read(bytes)?;
-    if taken >= bytes.len() || bytes[taken] != b'/' {
-        return None;
-    }
-    let (second, more) = b.read(&bytes[taken + 1..])?;
-    Some((Both { first, second }, taken + 1 + more))
-}
-
-// Writes the first part, a solidus and the second part.
-fn write_pair<A: WrittenOrder, B: WrittenOrder>(
-    a: &A,
-    b: &B,
-    kind: Both<A::Kind, B::Kind>,
-    memory: &mut [u8],
-) -> usize
-    ensures { Writes ((pair_texts (A.WrittenOrder.texts a.now) (B.WrittenOrder.texts b.now)).text kind) memory.old memory.new result }
-{
-    let first = a.write(kind.first, memory);
-    if first == 0 || first >= memory.len() {
-        return 0;
-    }
-    memory[first] = b'/';
-    let second = b.write(kind.second, &mut memory[first + 1..]);
-    if second == 0 {
-        return 0;
-    }
-    first + 1 + second
 }

@@ -1,6 +1,6 @@
 // Orders whose kinds have texts, and what reading and writing a text comes down to.
-ghost use Rattle.std.specs.Prelude.{◌≡◌, ℕ, ◌≤◌, List, ◌++◌, length, drop, Some};
-ghost use Rattle.orders.specs.Texts.{Texts, Stops, Stopped, FirstStop, Taken, Writes};
+ghost use Rattle.std.specs.Prelude.{◌≡◌, ℕ, List, ◌++◌, length, position, Some};
+ghost use Rattle.orders.specs.Texts.{Texts, Stops, Stopped, Taken, Writes, text_byte};
 ghost use Rattle.orders.specs.Texts.{stops as stopping};
 
 use crate::order::Order;
@@ -25,45 +25,36 @@ pub fn is_stop(byte: u8) -> bool
     !matches!(byte, b'a'..=b'z' | b'0'..=b'9' | b'_' | b'-' | b'.')
 }
 
-// The first byte at which texts stop.
-fn first_stop(bytes: &[u8]) -> Option<usize>
-    ensures { FirstStop bytes.now result }
+// A byte that texts have: one that the text of a single part has, or a solidus.
+pub fn is_text_byte(byte: u8) -> bool
+    ensures { result ≡ text_byte byte }
 {
-    for (i, byte) in bytes.iter().enumerate() {
-        if is_stop(*byte) {
-            return Some(i);
-        }
-    }
-    None
+    !is_stop(byte) || byte == b'/'
 }
 
 // Where the part that stands first ends: the first stop, or the end.
+#[tactic(auto, using(crate::proofs::Parts::stopped))]
 pub fn stop(bytes: &[u8]) -> usize
     ensures { Stopped bytes.now result }
 {
-    match first_stop(bytes) {
-        Some(place) => place,
-        None => bytes.len(),
-    }
+    first_stop(bytes).unwrap_or(bytes.len())
 }
 
-// Copies a text over the front of the memory.
-fn copy(text: &[u8], memory: &mut [u8])
-    requires { length text.now ≤ length memory.old }
-    ensures { memory.new ≡ text.now ++ drop (length text.now) memory.old }
+// The first byte at which texts stop. It stands alone, since what a chain answers is proved where the chain ends a function.
+fn first_stop(bytes: &[u8]) -> Option<usize>
+    ensures { result ≡ position stopping bytes.now }
 {
-    for (i, byte) in text.iter().enumerate() {
-        memory[i] = *byte;
-    }
+    bytes.iter().position(|byte| is_stop(*byte))
 }
 
 // Puts a text first into the memory and answers its bytes, or 0 where it does not fit.
+// As `write` of the trait above promises, no room is the answer 0 and no error.
 pub fn put(text: &[u8], memory: &mut [u8]) -> usize
     ensures { Writes (Some text.now) memory.old memory.new result }
 {
     if text.len() > memory.len() {
         return 0;
     }
-    copy(text, memory);
+    memory[..text.len()].copy_from_slice(text);
     text.len()
 }

@@ -1,11 +1,13 @@
 -- Parts of a line one after the other, and the longest words.
-use Rattle.std.proofs.Common.{◌≡◌, ℕ, zero, suc, ◌+◌, ◌-◌, ◌<◌, ◌≤◌, Bool, true, List, [], ◌∷◌, ◌++◌, length, get_or, take, drop, sym, refl, ap, ◌∙◌, subst, append_assoc, append-nil, arith, length-append}
-use Rattle.std.proofs.lemmas.List.{take-append-drop, take-take, drop-take, drop_at, length-take-le, length-drop, get_or-take, get_or-drop, take_more}
-use Rattle.std.proofs.lemmas.Bool.{and_from}
+use Rattle.std.proofs.Common.{◌≡◌, ℕ, zero, suc, ◌+◌, ◌-◌, ◌<◌, ◌≤◌, Bool, true, false, not, List, [], ◌∷◌, ◌++◌, length, get_or, take, drop, Some, None, inl, inr, sym, refl, ap, ◌∙◌, subst, append_assoc, append-nil, arith, length-append}
+use Rattle.std.proofs.lemmas.List.{take-append-drop, take-take, drop-take, drop_at, length-take-le, length-drop, take_all, get_or-take, get_or-drop, take_more}
+use Rattle.std.proofs.lemmas.Bool.{and_from, both_ways, cases_lt, cond-true, cond-false, lt-ltb, le-ltb}
+use Rattle.std.specs.List.{position_or_len}
+use Rattle.std.specs.Option.{unwrap_or}
+use Rattle.std.proofs.lemmas.List.Sums.{fails_before_first, passes_at_first, prefix_len-le-length}
 use Rattle.grammar.specs.Words.{all_by}
 use Rattle.reading.specs.declared.reader.Class.{Class}
-use Rattle.reading.specs.Notes.{part}
-use Rattle.reading.specs.Reading.{in_class, EndsAt, Spans, Longest}
+use Rattle.reading.specs.Reading.{in_class, first_outside, leading, Spans, Longest}
 
 pub all_by_each : (p : ℕ → Bool) (xs : List ℕ) → ((k : ℕ) → k < length xs → p (get_or xs k 0) ≡ true) → all_by p xs ≡ true
 unfolding all_by
@@ -40,22 +42,61 @@ spans_byte line i b l e =
     record { end = omega arith; within = omega arith; bytes = take_more line i 0 l ∙ ap (λ x. take i line ++ x ∷ []) e }
 
 -- a part of the line by its place and length
-pub spans-part : (line : List ℕ) (i j : ℕ) (w : List ℕ) → Spans line i j w → part line (record { place = i; len = length w }) ≡ w
+pub spans-part : (line : List ℕ) (i j : ℕ) (w : List ℕ) → Spans line i j w → take (length w) (drop i line) ≡ w
 spans-part line i j w s =
     let size : length (take i line) ≡ i = length-take-le i line (omega (arith, s.end, s.within)) in
     sym (drop-take i (length w) line) ∙ ap (λ n. drop i (take n line)) s.end ∙ ap (drop i) s.bytes ∙ drop_at (take i line) w i size
 
-pub longest_word : (line : List ℕ) (class : Class) (i j : ℕ) → EndsAt line class i j → Longest line class i (take (j - i) (drop i line))
-longest_word line class i j e =
-    let w = take (j - i) (drop i line) in
-    let s = spans_between line i j e.after e.within in
-    let size : length w ≡ j - i = omega (arith, s.end, e.after) in
+-- the code counts them up to the first byte outside
+pub leading_is : (class : Class) (bytes : List ℕ) → unwrap_or (first_outside class bytes) (length bytes) ≡ leading class bytes
+unfolding leading first_outside
+leading_is class bytes =
+    let q : ℕ → Bool = λ b. not (in_class class b) in
+    let few = prefix_len-le-length (λ b. not (q b)) bytes in
+    elim (cases_lt (position_or_len q bytes) (length bytes)) [
+      | inl l ↦ ap (λ o. unwrap_or o (length bytes)) (cond-true _ (Some (position_or_len q bytes)) None (lt-ltb _ _ l))
+      | inr l ↦
+          let e : length bytes ≡ position_or_len q bytes = omega arith in
+          ap (λ o. unwrap_or o (length bytes)) (cond-false _ (Some (position_or_len q bytes)) None (le-ltb _ _ l)) ∙ e
+    ]
+
+pub leading_within : (class : Class) (bytes : List ℕ) → leading class bytes ≤ length bytes
+unfolding leading
+leading_within class bytes = prefix_len-le-length (λ b. not (not (in_class class b))) bytes
+
+-- the bytes of a class that stand first from a place on
+pub longest_word : (line : List ℕ) (class : Class) (i : ℕ) → i ≤ length line → (n : ℕ) → n ≡ leading class (drop i line) → Longest line class i (take n (drop i line))
+unfolding leading
+longest_word line class i l n e =
+    let xs : List ℕ = drop i line in
+    let q : ℕ → Bool = λ b. not (in_class class b) in
+    let rest = length-drop i line in
+    let few : n ≤ length xs = omega (arith, e, prefix_len-le-length (λ b. not (q b)) xs) in
+    let w = take n xs in
+    let k : i + n - i ≡ n = omega arith in
+    let s : Spans line i (i + n) w = subst (λ m. Spans line i (i + n) (take m xs)) k (spans_between line i (i + n) (omega arith) (omega arith)) in
+    let size : length w ≡ n = length-take-le n xs few in
     let at : (k : ℕ) → k < length w → in_class class (get_or w k 0) ≡ true =
-    λ k l.
-    let short : k < j - i = omega arith in
-    ap (in_class class) (get_or-take (j - i) (drop i line) k 0 short ∙ get_or-drop i line k 0) ∙ e.all (i + k) (omega arith) (omega arith) in
+    λ k m.
+    ap (in_class class) (get_or-take n xs k 0 (omega arith)) ∙ not_from_false _ (fails_before_first q xs k 0 (omega arith)) in
     record {
-      spans = subst (λ n. Spans line i n w) (sym s.end) s;
+      spans = subst (λ m. Spans line i m w) (sym s.end) s;
       all = all_by_each (in_class class) w at;
-      stop = λ l. ap (λ n. in_class class (get_or line n 0)) s.end ∙ e.stop (omega (arith, s.end));
+      stop =
+          λ m.
+          let here : n < length xs = omega arith in
+          ap (in_class class) (sym (get_or-drop i line (length w) 0) ∙ ap (λ k. get_or xs k 0) (size ∙ e))
+          ∙ not_true _ (passes_at_first q xs 0 (omega (arith, e)));
     }
+  where
+    not_from_false : (b : Bool) → not b ≡ false → b ≡ true
+    not_from_false true h = refl
+    not_from_false false h = absurd (both_ways true h refl)
+
+    not_true : (b : Bool) → not b ≡ true → b ≡ false
+    not_true true h = absurd (both_ways false refl h)
+    not_true false h = refl
+
+-- the bytes from a place on, as the code cuts them
+pub rest_is : (line : List ℕ) (i : ℕ) → take (length line - i) (drop i line) ≡ drop i line
+rest_is line i = take_all (length line - i) (drop i line) (omega (arith, length-drop i line))

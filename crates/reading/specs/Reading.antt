@@ -1,5 +1,6 @@
 -- What the steps of the reader give: a middle layer under what `read` promises.
 use Rattle.std.specs.Prelude.{◌≡◌, ℕ, suc, ◌+◌, ◌*◌, ◌/◌, ◌<◌, ◌≤◌, Bool, true, false, cond, not, ◌||◌, ◌⊎◌, List, [], ◌∷◌, ◌++◌, length, take, Some, None, Ok, Err, Option, Result, ◌==◌, nat_le, nat_lt, slice_index, slice_index_or}
+use Rattle.std.specs.List.{position, position_or_len}
 use Rattle.refusals.specs.declared.Refusal.{Refusal}
 use Rattle.refusals.specs.Places.{Breaks}
 use Rattle.refusals.specs.Table.{row}
@@ -26,7 +27,7 @@ use Rattle.reading.specs.declared.reader.Link.{Link}
 use Rattle.reading.specs.declared.reader.heads.trees.Looked.{Looked}
 use Rattle.reading.specs.declared.notes.Notes.{Notes}
 use Rattle.reading.specs.Links.{linked, links}
-use Rattle.reading.specs.Notes.{noted}
+use Rattle.reading.specs.Notes.{noted, variables, statements}
 
 abbrev pub byte_at : List ℕ → ℕ → Option ℕ
 byte_at line i = cond (nat_lt i (length line)) (Some (slice_index line i)) None
@@ -41,12 +42,12 @@ in_class Name b = name_letter b
 in_class Feature b = name_byte b
 in_class Kind b = text_byte b
 
--- the bytes from i on are of the class up to j, and no further
-pub record EndsAt (line : List ℕ) (class : Class) (i j : ℕ) : Type 0 where
-  pub after : i ≤ j
-  pub within : j ≤ length line
-  pub all : (k : ℕ) → i ≤ k → k < j → in_class class (slice_index line k) ≡ true
-  pub stop : j < length line → in_class class (slice_index line j) ≡ false
+-- the first byte outside the class, and how many bytes of the class stand first
+unfoldable pub first_outside : Class → List ℕ → Option ℕ
+first_outside class bytes = position (λ b. not (in_class class b)) bytes
+
+unfoldable pub leading : Class → List ℕ → ℕ
+leading class bytes = position_or_len (λ b. not (in_class class b)) bytes
 
 -- from i to j the line has the bytes w
 pub record Spans (line : List ℕ) (i j : ℕ) (w : List ℕ) : Type 0 where
@@ -133,23 +134,23 @@ LooksUp features words w r =
 
 -- how much memory is used where a term begins at i, and where one has ended at i: a term takes five bytes at least
 abbrev pub RoomAt : ℕ → Option Link → Notes → Type 0
-RoomAt i from n = (n.variables ≤ i / 5) × (n.count + links from ≤ 2 * (i / 5))
+RoomAt i from n = (variables n ≤ i / 5) × (statements n + links from ≤ 2 * (i / 5))
 
 abbrev pub RoomAfter : ℕ → Notes → Type 0
-RoomAfter i n = (n.variables ≤ (i + 4) / 5) × (n.count + 1 ≤ 2 * ((i + 4) / 5))
+RoomAfter i n = (variables n ≤ (i + 4) / 5) × (statements n + 1 ≤ 2 * ((i + 4) / 5))
 
 -- a whole term
 abbrev pub TermRead : List (List ℕ) → List ℕ → Option Link → ℕ → ℕ → Notes → Notes → Result ℕ Refusal → Type 0
 TermRead features line from i d n m (Ok j) =
     (t : Tree) × LawfulTree limits d t × Spans line i j (written t) × Ended line j d
-    × (noted line m ≡ tell features t i (linked from (variable t (noted line n)) (noted line n))) × RoomAfter j m
+    × (noted m ≡ tell features t i (linked from (variable t (noted n)) (noted n))) × RoomAfter j m
 TermRead features line from i d n m (Err e) = Fails line e
 
 -- the items of x from the parenthesis or the comma at i on, to the end of their list
 abbrev pub ListRead : List (List ℕ) → List ℕ → ℕ → List (List ℕ) → ℕ → ℕ → Notes → Notes → Result ℕ Refusal → Type 0
 ListRead features line x words i d n m (Ok j) =
     (f : List ℕ) × (u : Tree) × (rest : Items) × LawfulItems limits (suc d) (item f u rest) × Spans line (i + 1) j (f ++ 61 ∷ 62 ∷ (written u ++ more rest))
-    × (here line j ≡ Some (state closed d)) × (noted line m ≡ tell_items features (item f u rest) x words i (noted line n)) × RoomAfter j m
+    × (here line j ≡ Some (state closed d)) × (noted m ≡ tell_items features (item f u rest) x words i (noted n)) × RoomAfter j m
 ListRead features line x words i d n m (Err e) = Fails line e
 
 -- the whole line, as one term
@@ -159,7 +160,7 @@ RootRead features line before after (Err e) = Fails line e
 
 -- reasons 1 to 3, or what the tree of the line says
 abbrev pub NotesOf : List (List ℕ) → List ℕ → Result Notes Refusal → Type 0
-NotesOf features line (Ok n) = (l : Line line) × (noted line n ≡ told features l.tree) × ((told features l.tree).wrong ≡ None)
+NotesOf features line (Ok n) = (l : Line line) × (noted n ≡ told features l.tree) × ((told features l.tree).wrong ≡ None)
 NotesOf features line (Err e) =
     (TooMuch line × (row e ≡ record { number = 1; values = 0 ∷ [] }))
     ⊎ (((TooMuch line → ⊥) × (p : ℕ) × Breaks Grammar line p × (row e ≡ record { number = 2; values = p ∷ [] }))

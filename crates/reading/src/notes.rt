@@ -1,17 +1,16 @@
-// What is found in a line, in memory of a fixed size.
-ghost use Rattle.std.specs.Prelude.{◌≤◌};
+// What is found in a line, in memory of a fixed size. Nothing of the line is copied: names and kind texts are parts of it.
+ghost use Rattle.std.specs.Prelude.{◌≤◌, length};
 
-use crate::span::Span;
-use grammar::statement::Said;
+use grammar::statement::{MOST_STATEMENTS, MOST_VARIABLES, Said};
+use short_lists::ShortList;
 
-// The names of the variables met, no bytes for one that has none; the statements; the leftmost wrong word.
+// The names of the variables met, no bytes for one that has none, as the clauses have it (an `Option` would be turned into that wherever
+// names are looked for); the statements; the leftmost wrong word.
 #[derive(Clone, Copy)]
-pub struct Notes {
-    pub names: [Span; 200],
-    pub variables: usize,
-    pub said: [Said<Span>; 399],
-    pub count: usize,
+pub struct Notes<'a> {
+    pub names: ShortList<&'a [u8], MOST_VARIABLES>,
+    pub said: ShortList<Said<&'a [u8]>, MOST_STATEMENTS>,
     pub wrong: Option<usize>,
-    ghost few: { variables ≤ 200 },
-    ghost room: { count ≤ 399 },
+    ghost few: { length names.items ≤ 200 },
+    ghost room: { length said.items ≤ 399 },
 }

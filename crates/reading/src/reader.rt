@@ -1,25 +1,30 @@
 // A reader over a lent line: its words, and what it notes of them.
-ghost use Rattle.std.specs.Prelude.{◌≡◌, ℕ, ◌+◌, ◌<◌, ◌≤◌, List, length, nat_lt};
-ghost use Rattle.declarations.specs.Names.{letter, listed};
-ghost use Rattle.orders.specs.Texts.{text_byte};
-ghost use Rattle.grammar.specs.Told.{nothing, index};
+ghost use Rattle.std.specs.Prelude.{◌≡◌, ℕ, ◌+◌, ◌<◌, ◌≤◌, length};
+ghost use Rattle.features.specs.Model.{number_of};
+ghost use Rattle.grammar.specs.Told.{nothing};
 ghost use Rattle.grammar.specs.Told.{meet as met, meet_unnamed, say as saying, mark as marked};
 ghost use Rattle.grammar.specs.Words.{capital};
 ghost use Rattle.reading.specs.Links.{linked, links};
-ghost use Rattle.reading.specs.Notes.{noted, statement_in, part, with_name, Named as Naming};
-ghost use Rattle.reading.specs.Reading.{byte_at, mark_of, in_class, EndsAt, TokenAt, ShortWord};
+ghost use Rattle.reading.specs.Notes.{noted, statement_of, variables, statements, first_named, with_name, Named as Naming};
+ghost use Rattle.reading.specs.Reading.{byte_at, mark_of, in_class, first_outside, leading, TokenAt, ShortWord};
 
 use crate::notes::Notes;
-use crate::span::{Span, bytes_of};
+use declarations::line::is_name_byte;
+use declarations::name::LONGEST_NAME;
+use features::table::Features;
 use grammar::statement::{Said, Statement};
+use orders::texts::is_text_byte;
 use refusals::Refusal;
+use short_lists::ShortList;
 
 pub mod heads;
 
-// The line that is read. Nothing of it is copied: tokens are parts of it.
+// The line that is read, and the features that it may use. Nothing of the line is copied: tokens are parts of it.
 #[derive(Clone, Copy)]
-struct Reader<'a> {
+struct Reader<'a, 'f> {
     line: &'a [u8],
+    features: &'f Features,
+    ghost fits: { length line.now ≤ 1000 },
 }
 
 // A word of the line, and the place of its first byte.
@@ -50,7 +55,7 @@ enum Mark {
     // the two halves of the arrow
     Equals,
     Greater,
-    // none of these, or the end of the line
+    // none of these, or the end of the line: a case like the others, so that one `match` has them all
     Other,
 }
 
@@ -72,11 +77,19 @@ enum Body {
     Opens { at: usize },
 }
 
-// What follows an item: the next one, or the end of the list.
+// What follows an item: the next one, or the end of the list. (Heads, bodies and closings have two ends each that are both
+// answers: neither is an error or nothing.)
 #[derive(Clone, Copy)]
 enum Closing {
     More,
     Done,
+}
+
+// The variable of a name, and whether the name was met before. The variable is wanted either way.
+#[derive(Clone, Copy)]
+struct Named {
+    variable: usize,
+    known: bool,
 }
 
 // The feature of a variable, and the place of its word.
@@ -87,27 +100,8 @@ struct Link {
     place: usize,
 }
 
-// Says that the value of the link, if there is one, is this variable.
-fn say_link(notes: &mut Notes, from: Option<Link>, value: usize)
-    requires { notes.old.count + links from < 400 }
-    ensures told { (line : List ℕ) → noted line notes.new ≡ linked from value (noted line notes.old) }
-    ensures counts { (notes.new.variables ≡ notes.old.variables) × (notes.new.count ≡ notes.old.count + links from) }
-{
-    if let Some(link) = from {
-        let statement = Statement::Feature {
-            variable: link.variable,
-            feature: link.feature,
-            value,
-        };
-        notes.say(statement, link.place);
-    }
-}
-
-// A part of no bytes.
-const EMPTY: Span = Span { place: 0, len: 0 };
-
-// What the memory holds where nothing is said yet.
-const UNSAID: Said<Span> = Said {
+// What the room has where nothing is said yet.
+const UNSAID: Said<&[u8]> = Said {
     statement: Statement::Feature {
         variable: 0,
         feature: 0,
@@ -116,96 +110,98 @@ const UNSAID: Said<Span> = Said {
     place: 0,
 };
 
-// The variable of a name, and whether the name was met before.
-#[derive(Clone, Copy)]
-struct Named {
-    variable: usize,
-    known: bool,
-}
-
-impl Notes {
+// That there is room for one more is required here, and shown from the line's length: so none of these can fail.
+impl<'a> Notes<'a> {
     // Nothing is found yet.
-    fn new() -> Notes
-        ensures told { (line : List ℕ) → noted line result ≡ nothing }
-        ensures none { (result.variables ≡ 0) × (result.count ≡ 0) }
+    fn new() -> Notes<'a>
+        ensures { noted result ≡ nothing }
     {
         Notes {
-            names: [EMPTY; 200],
-            variables: 0,
-            said: [UNSAID; 399],
-            count: 0,
+            names: ShortList::empty(b""),
+            said: ShortList::empty(UNSAID),
             wrong: None,
         }
     }
 
-    // One variable more, with a name that is new or with none.
-    fn push_name(&mut self, name: Span)
-        requires { self.old.variables < 200 }
-        ensures told { (line : List ℕ) → noted line self.new ≡ with_name (part line name) (noted line self.old) }
-        ensures counts { (self.new.variables ≡ self.old.variables + 1) × (self.new.count ≡ self.old.count) }
-        ensures size { (line : List ℕ) → length (noted line self.old).names ≡ self.old.variables }
-    {
-        let at = self.variables;
-        self.names[at] = name;
-        self.variables = at + 1;
-    }
-
-    // The number of the variable with this name, or how many there are where none has it.
-    fn find(&self, line: &[u8], word: &[u8]) -> usize
-        ensures number { result ≡ index word.now (noted line.now self.now).names }
-        ensures known { nat_lt result self.now.variables ≡ listed word.now (noted line.now self.now).names }
-    {
-        let names = &self.names[0..self.variables];
-        for (variable, name) in names.iter().enumerate() {
-            if bytes_of(line, *name) == word {
-                return variable;
-            }
-        }
-        self.variables
-    }
-
     // The variable of a name, a new one where the name was not met before.
-    fn meet(&mut self, line: &[u8], name: Span) -> Named
-        requires { self.old.variables < 200 }
-        ensures answer { Naming (part line.now name) (noted line.now self.old).names result }
-        ensures told { noted line.now self.new ≡ met (part line.now name) (noted line.now self.old) }
-        ensures counts { (self.new.variables ≤ self.old.variables + 1) × (self.new.count ≡ self.old.count) }
+    #[tactic(auto, using(crate::proofs::Noting::old_meets, crate::proofs::Noting::old_told, crate::proofs::Noting::new_told))]
+    fn meet(&mut self, name: &'a [u8]) -> Named
+        requires { variables self.old < 200 }
+        ensures answer { Naming name.now (noted self.old).names result }
+        ensures told { noted self.new ≡ met name.now (noted self.old) }
+        ensures counts { (variables self.new ≤ variables self.old + 1) × (statements self.new ≡ statements self.old) }
     {
-        let variable = self.find(line, bytes_of(line, name));
-        let known = variable < self.variables;
-        if !known {
-            self.push_name(name);
+        match self.find(name) {
+            Some(variable) => Named {
+                variable,
+                known: true,
+            },
+            None => Named {
+                variable: self.add(name),
+                known: false,
+            },
         }
-        Named { variable, known }
     }
 
     // A new variable without a name.
     fn meet_unnamed(&mut self) -> usize
-        requires { self.old.variables < 200 }
-        ensures answer { (line : List ℕ) → result ≡ length (noted line self.old).names }
-        ensures told { (line : List ℕ) → noted line self.new ≡ meet_unnamed (noted line self.old) }
-        ensures counts { (self.new.variables ≡ self.old.variables + 1) × (self.new.count ≡ self.old.count) }
+        requires { variables self.old < 200 }
+        ensures answer { result ≡ length (noted self.old).names }
+        ensures told { noted self.new ≡ meet_unnamed (noted self.old) }
+        ensures counts { (variables self.new ≡ variables self.old + 1) × (statements self.new ≡ statements self.old) }
     {
-        let variable = self.variables;
-        self.push_name(EMPTY);
+        self.add(b"")
+    }
+
+    // The number of the variable with this name.
+    #[tactic(auto, using(crate::proofs::Noting::number_found))]
+    fn find(&self, name: &[u8]) -> Option<usize>
+        ensures { result ≡ number_of name.now (noted self.now).names }
+    {
+        first_named(self.names.as_slice(), name)
+    }
+
+    // One variable more, and its number.
+    fn add(&mut self, name: &'a [u8]) -> usize
+        requires { variables self.old < 200 }
+        ensures answer { result ≡ length (noted self.old).names }
+        ensures told { noted self.new ≡ with_name name.now (noted self.old) }
+        ensures counts { (variables self.new ≡ variables self.old + 1) × (statements self.new ≡ statements self.old) }
+    {
+        let variable = self.names.len();
+        let _ = self.names.push(name);
         variable
     }
 
     // One statement more, from the word at this place.
-    fn say(&mut self, statement: Statement<Span>, place: usize)
-        requires { self.old.count < 399 }
-        ensures told { (line : List ℕ) → noted line self.new ≡ saying (statement_in line statement) place (noted line self.old) }
-        ensures counts { (self.new.variables ≡ self.old.variables) × (self.new.count ≡ self.old.count + 1) }
+    fn say(&mut self, statement: Statement<&'a [u8]>, place: usize)
+        requires { statements self.old < 399 }
+        ensures told { noted self.new ≡ saying (statement_of statement.entry) place (noted self.old) }
+        ensures counts { (variables self.new ≡ variables self.old) × (statements self.new ≡ statements self.old + 1) }
     {
-        let at = self.count;
-        self.said[at] = Said { statement, place };
-        self.count = at + 1;
+        let _ = self.said.push(Said { statement, place });
+    }
+
+    // Says that the value of the link, if there is one, is this variable.
+    fn say_link(&mut self, from: Option<Link>, value: usize)
+        requires { statements self.old + links from < 400 }
+        ensures told { noted self.new ≡ linked from value (noted self.old) }
+        ensures counts { (variables self.new ≡ variables self.old) × (statements self.new ≡ statements self.old + links from) }
+    {
+        if let Some(link) = from {
+            let statement = Statement::Feature {
+                variable: link.variable,
+                feature: link.feature,
+                value,
+            };
+            self.say(statement, link.place);
+        }
     }
 
     // The word at this place is wrong if the test says so. The leftmost counts.
     fn mark(&mut self, wrong: bool, place: usize)
-        ensures told { (line : List ℕ) → noted line self.new ≡ marked wrong place (noted line self.old) }
-        ensures counts { (self.new.variables ≡ self.old.variables) × (self.new.count ≡ self.old.count) }
+        ensures told { noted self.new ≡ marked wrong place (noted self.old) }
+        ensures counts { (variables self.new ≡ variables self.old) × (statements self.new ≡ statements self.old) }
     {
         if wrong && self.wrong.is_none() {
             self.wrong = Some(place);
@@ -213,99 +209,85 @@ impl Notes {
     }
 }
 
-// The most bytes that a name or a feature has.
-const WORD: usize = 24;
+// The first of the names that is this word. One line of the library: a trait for what has a name would be longer than its uses.
+#[tactic(auto, unfolding(crate::specs::Notes::first_named))]
+fn first_named(names: &[&[u8]], word: &[u8]) -> Option<usize>
+    ensures { result ≡ first_named word.now names.now }
+{
+    names.iter().position(|name| word == *name)
+}
 
-fn is_capital(byte: char) -> bool
+fn is_capital(byte: u8) -> bool
     ensures { result ≡ capital byte }
 {
-    matches!(byte, 'A'..='Z')
+    byte.is_ascii_uppercase()
 }
 
-fn is_lower(byte: char) -> bool
-    ensures { result ≡ letter byte }
-{
-    matches!(byte, 'a'..='z')
-}
-
-fn is_text_byte(byte: char) -> bool
-    ensures { result ≡ text_byte byte }
-{
-    matches!(byte, 'a'..='z' | '0'..='9' | '_' | '-' | '.' | '/')
-}
-
-// Whether words of the class have this byte.
-fn has(class: Class, byte: u8) -> bool
-    ensures { result ≡ in_class class byte }
-{
-    match class {
-        Class::Name => matches!(byte, b'A'..=b'Z' | b'a'..=b'z' | b'0'..=b'9'),
-        Class::Feature => matches!(byte, b'a'..=b'z' | b'0'..=b'9' | b'_'),
-        Class::Kind => matches!(byte, b'a'..=b'z' | b'0'..=b'9' | b'_' | b'-' | b'.' | b'/'),
-    }
-}
-
-impl<'a> Token<'a> {
-    // The word by its place and length.
-    fn span(&self) -> Span
-        ensures { result ≡ record { place = self.now.place; len = length self.now.text.now } }
+impl Class {
+    // Whether words of the class have this byte. A closure in place of a class would have to be named again in each contract below.
+    fn has(self, byte: u8) -> bool
+        ensures { result ≡ in_class self byte }
     {
-        Span {
-            place: self.place,
-            len: self.text.len(),
+        match self {
+            Class::Name => byte.is_ascii_alphanumeric(),
+            Class::Feature => is_name_byte(byte),
+            Class::Kind => is_text_byte(byte),
         }
     }
+
+    // How many bytes the longest word of the class has that stands first.
+    #[tactic(auto, using(crate::proofs::Spanning::leading_is, crate::proofs::Spanning::leading_within))]
+    fn leading(self, bytes: &[u8]) -> usize
+        ensures value { result ≡ leading self bytes.now }
+        ensures within { result ≤ length bytes.now }
+    {
+        self.first_outside(bytes).unwrap_or(bytes.len())
+    }
+
+    // The first byte that no word of the class has: one line of the library.
+    #[tactic(auto, unfolding(crate::specs::Reading::first_outside))]
+    fn first_outside(self, bytes: &[u8]) -> Option<usize>
+        ensures { result ≡ first_outside self bytes.now }
+    {
+        bytes.iter().position(|byte| !self.has(*byte))
+    }
 }
 
-impl<'a> Reader<'a> {
+impl<'a, 'f> Reader<'a, 'f> {
     // The byte at a place, or none past the end.
-    fn byte(&self, at: usize) -> Option<char>
+    fn byte(&self, at: usize) -> Option<u8>
         ensures { result ≡ byte_at self.now.line.now at }
     {
-        if at < self.line.len() {
-            Some(self.line[at] as char)
-        } else {
-            None
-        }
+        self.line.get(at).copied()
     }
 
     // The mark at a place.
     fn mark(&self, at: usize) -> Mark
         ensures { result ≡ mark_of (byte_at self.now.line.now at) }
     {
-        match self.byte(at) {
-            Some('(') => Mark::Open,
-            Some(')') => Mark::Close,
-            Some(',') => Mark::Comma,
-            Some(':') => Mark::Colon,
-            Some('=') => Mark::Equals,
-            Some('>') => Mark::Greater,
+        let Some(byte) = self.byte(at) else {
+            return Mark::Other;
+        };
+        match byte as char {
+            '(' => Mark::Open,
+            ')' => Mark::Close,
+            ',' => Mark::Comma,
+            ':' => Mark::Colon,
+            '=' => Mark::Equals,
+            '>' => Mark::Greater,
             _ => Mark::Other,
         }
     }
 
-    // Where the longest word of a class ends that begins here.
-    fn end_of(&self, class: Class, start: usize) -> usize
-        requires { start ≤ length self.now.line.now }
-        ensures { EndsAt self.now.line.now class start result }
-    {
-        for i in start..self.line.len() {
-            if !has(class, self.line[i]) {
-                return i;
-            }
-        }
-        self.line.len()
-    }
-
-    // The longest word of a class that begins here, of no bytes where none does.
+    // The longest word of a class that begins here. One of no bytes is a word too, and the longest where no byte is of the class.
     fn word(&self, class: Class, start: usize) -> Token<'a>
         requires { start ≤ length self.now.line.now }
         ensures { TokenAt self.now.line.now class start result }
     {
-        let end = self.end_of(class, start);
+        let rest = &self.line[start..];
         Token {
             place: start,
-            text: &self.line[start..end],
+            text: &rest[..class.leading(rest)],
         }
     }
 
@@ -315,7 +297,7 @@ impl<'a> Reader<'a> {
         ensures { ShortWord self.now.line.now class start result }
     {
         let word = self.word(class, start);
-        if word.text.len() > WORD {
+        if word.text.len() > LONGEST_NAME {
             return Err(Refusal::Limit { place: 0 });
         }
         Ok(word)

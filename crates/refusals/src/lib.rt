@@ -7,6 +7,9 @@ ghost use Rattle.refusals.specs.Table.{row, printed};
 
 use std::fmt;
 
+// How many bytes a line may have, whatever it says. Each call that reads a line tests it first, in one line as its other tests.
+pub const LONGEST_LINE: usize = 1000;
+
 #[derive(Clone, Copy, PartialEq, Eq, Debug)]
 pub enum Refusal {
     // A limit is passed: the first byte of the line, or 0 for a file.
@@ -32,7 +35,7 @@ pub enum Refusal {
 }
 
 impl Refusal {
-    // The number of the reason, 1 to 10.
+    // The number of the reason, 1 to 10, as it is printed. Code matches the cases.
     pub fn number(&self) -> u8
         ensures { result ≡ (row self.now).number }
     {

@@ -1,58 +1,39 @@
 // Names from words, and words against names.
-ghost use Rattle.std.specs.Prelude.{◌≡◌, ◌≤◌, length, Decides};
+ghost use Rattle.std.specs.Prelude.{◌≡◌, Decides};
+ghost use Rattle.std.specs.Str.{bytes_eq};
 ghost use Rattle.declarations.specs.Held.{name_bytes, Holds};
 
-use super::Name;
+use super::{LONGEST_NAME, Name};
+use short_lists::ShortList;
 
 // A name of no bytes, which no kind has.
 pub const BLANK: Name = Name {
-    bytes: [0; 24],
-    len: 0,
+    text: ShortList {
+        room: [0; LONGEST_NAME],
+        len: 0,
+    },
 };
 
-// Holds a word of at most 24 bytes.
-fn hold(word: &[u8]) -> Name
-    requires { length word.now ≤ 24 }
-    ensures { name_bytes result ≡ word.now }
-{
-    let mut bytes = [0; 24];
-    for (i, byte) in word.iter().enumerate() {
-        bytes[i] = *byte;
-    }
-    Name {
-        bytes,
-        len: word.len(),
-    }
-}
-
-// Whether two words are the same.
-fn same(a: &[u8], b: &[u8]) -> bool
-    ensures { Decides result (a.now ≡ b.now) }
-{
-    a == b
-}
-
 impl Name {
-    // A word as a name, or none where it has over 24 bytes.
+    // A word as a name, or none where it has over 24 bytes. No `TryFrom`: an error type would say no more than none.
     pub fn new(word: &[u8]) -> Option<Name>
         ensures { Holds word.now result }
     {
-        if word.len() > 24 {
-            return None;
-        }
-        Some(hold(word))
+        let text = ShortList::of(word, 0)?;
+        Some(Name { text })
     }
 
     pub fn as_slice(&self) -> &[u8]
         ensures { result.now ≡ name_bytes self.now }
     {
-        &self.bytes[0..self.len]
+        self.text.as_slice()
     }
 
-    // Whether a word is this name.
+    // Whether a word is this name. No derived `==`: that would compare names alone, and the unused room with them.
     pub fn is(&self, word: &[u8]) -> bool
-        ensures { Decides result (name_bytes self.now ≡ word.now) }
+        ensures answer { result ≡ bytes_eq word.now (name_bytes self.now) }
+        ensures decides { Decides result (name_bytes self.now ≡ word.now) }
     {
-        same(self.as_slice(), word)
+        word == self.as_slice()
     }
 }

@@ -1,10 +1,11 @@
 // Features by their names.
 ghost use Rattle.std.specs.Prelude.{◌≡◌, ℕ, ◌<◌, ◌≤◌, [], length, Some};
-ghost use Rattle.features.specs.Model.{feature_names, number_of, NameAt};
+ghost use Rattle.features.specs.Model.{feature_names, first_named, number_of, NameAt};
 
 use crate::table::Features;
 use declarations::name::Name;
 use declarations::name::methods::BLANK;
+use short_lists::ShortList;
 
 impl Features {
     // No feature yet.
@@ -12,8 +13,7 @@ impl Features {
         ensures { feature_names result ≡ [] }
     {
         Features {
-            count: 0,
-            names: [BLANK; 16],
+            names: ShortList::empty(BLANK),
         }
     }
 
@@ -22,38 +22,31 @@ impl Features {
         ensures answer { result ≡ length (feature_names self.now) }
         ensures few { result ≤ 16 }
     {
-        self.names[0..self.count].len()
+        self.names.len()
     }
 
     // The number of a feature, or none where it is not declared.
+    #[tactic(auto, using(crate::proofs::Held::number_found))]
     pub fn find(&self, word: &[u8]) -> Option<usize>
         ensures answer { result ≡ number_of word.now (feature_names self.now) }
         ensures few { (n : ℕ) → result ≡ Some n → n < 16 }
     {
-        first_named(self, word)
+        first_named(self.names.as_slice(), word)
     }
 
     // The name of a feature, or none where there is no such number.
     pub fn name(&self, feature: usize) -> Option<Name>
         ensures { NameAt (feature_names self.now) feature result }
     {
-        if feature >= self.count {
-            return None;
-        }
-        Some(self.names[feature])
+        self.names.as_slice().get(feature).copied()
     }
 }
 
-// The first feature with this name.
-fn first_named(features: &Features, word: &[u8]) -> Option<usize>
-    ensures answer { result ≡ number_of word.now (feature_names features.now) }
-    ensures few { (n : ℕ) → result ≡ Some n → n < 16 }
+// The first of the names that is this word. One line of the library: a trait for what has a name would be longer than its uses.
+#[tactic(auto, unfolding(crate::specs::Model::first_named))]
+fn first_named(names: &[Name], word: &[u8]) -> Option<usize>
+    ensures answer { result ≡ first_named word.now names.now }
+    ensures within { (n : ℕ) → result ≡ Some n → n < length names.now }
 {
-    let names = &features.names[0..features.count];
-    for (feature, name) in names.iter().enumerate() {
-        if name.is(word) {
-            return Some(feature);
-        }
-    }
-    None
+    names.iter().position(|name| name.is(word))
 }

@@ -8,14 +8,30 @@ use super::List;
 use crate::table::Table;
 use orders::order::Order;
 
-// The lowest kind of a row, if it has one.
-fn lowest(row: u64) -> Option<usize>
-    ensures { result ≡ lowest_in 64 row }
-{
-    if row == 0 {
-        None
-    } else {
-        Some(row.trailing_zeros() as usize)
+impl Order for List {
+    // Kinds are declared while the program runs, and every number is one: an enum or a type with fewer numbers cannot have them.
+    type Kind = usize;
+
+    ghost meaning = { λ l. list_order l };
+
+    fn widest(&self) -> usize {
+        0
+    }
+
+    fn common(&self, a: usize, b: usize) -> Option<usize> {
+        self.table.common_kind(a, b)
+    }
+}
+
+impl Table {
+    // The lowest kind that is in both rows.
+    fn common_kind(&self, a: usize, b: usize) -> Option<usize>
+        ensures { result ≡ common_in 64 (rows_of (kinds_of self.now)) a b }
+    {
+        if a >= self.len() || b >= self.len() {
+            return common_stray(a, b);
+        }
+        lowest(self.row(a) & self.row(b))
     }
 }
 
@@ -32,26 +48,13 @@ fn common_stray(a: usize, b: usize) -> Option<usize>
     }
 }
 
-// The lowest kind that is in both rows.
-fn common_kind(table: &Table, a: usize, b: usize) -> Option<usize>
-    ensures { result ≡ common_in 64 (rows_of (kinds_of table.now)) a b }
+// The lowest kind of a row, if it has one.
+fn lowest(row: u64) -> Option<usize>
+    ensures { result ≡ lowest_in 64 row }
 {
-    if a >= table.count || b >= table.count {
-        return common_stray(a, b);
-    }
-    lowest(table.rows[a] & table.rows[b])
-}
-
-impl Order for List {
-    type Kind = usize;
-
-    ghost meaning = { λ l. list_order l };
-
-    fn widest(&self) -> usize {
-        0
-    }
-
-    fn common(&self, a: usize, b: usize) -> Option<usize> {
-        common_kind(&self.table, a, b)
+    if row == 0 {
+        None
+    } else {
+        Some(row.trailing_zeros() as usize)
     }
 }

@@ -1,167 +1,203 @@
 // The list that comes with the matcher.
-ghost use Rattle.std.specs.Prelude.{◌≡◌, [], Ok, slice_index_or};
+ghost use Rattle.std.specs.Prelude.{◌≡◌, map, Ok};
 ghost use Rattle.kinds.specs.Lists.{listing};
 ghost use Rattle.kinds.specs.Shipped.{shipped as shipped_kinds};
 ghost use Rattle.kinds.specs.Shipped.{shipped_lines};
 
 use super::List;
 use crate::draft::Draft;
-use crate::table::Table;
+use crate::table::{ANY_NAME, Kind, Table};
 use declarations::name::Name;
 use declarations::name::methods::BLANK;
 use refusals::Refusal;
+use short_lists::ShortList;
 
-const ANY: Name = Name {
-    bytes: [
-        97, 110, 121, 0, 0, 0, 0, 0, 0, 0, 0, 0, 0, 0, 0, 0, 0, 0, 0, 0, 0, 0, 0, 0,
-    ],
-    len: 3,
+// `any`, with all ten kinds at or under it.
+const WIDEST: Kind = Kind {
+    name: ANY_NAME,
+    wider: 0,
+    row: 1023,
 };
 
-const CREDIT: Name = Name {
-    bytes: [
-        99, 114, 101, 100, 105, 116, 0, 0, 0, 0, 0, 0, 0, 0, 0, 0, 0, 0, 0, 0, 0, 0, 0, 0,
-    ],
-    len: 6,
+const CREDIT: Kind = Kind {
+    name: Name {
+        text: ShortList {
+            room: *b"credit\0\0\0\0\0\0\0\0\0\0\0\0\0\0\0\0\0\0",
+            len: 6,
+        },
+    },
+    wider: 1,
+    row: 306,
 };
 
-const DEBIT: Name = Name {
-    bytes: [
-        100, 101, 98, 105, 116, 0, 0, 0, 0, 0, 0, 0, 0, 0, 0, 0, 0, 0, 0, 0, 0, 0, 0, 0,
-    ],
-    len: 5,
+const DEBIT: Kind = Kind {
+    name: Name {
+        text: ShortList {
+            room: *b"debit\0\0\0\0\0\0\0\0\0\0\0\0\0\0\0\0\0\0\0",
+            len: 5,
+        },
+    },
+    wider: 1,
+    row: 708,
 };
 
-const BY_DD: Name = Name {
-    bytes: [
-        98, 121, 95, 100, 100, 0, 0, 0, 0, 0, 0, 0, 0, 0, 0, 0, 0, 0, 0, 0, 0, 0, 0, 0,
-    ],
-    len: 5,
+const BY_DD: Kind = Kind {
+    name: Name {
+        text: ShortList {
+            room: *b"by_dd\0\0\0\0\0\0\0\0\0\0\0\0\0\0\0\0\0\0\0",
+            len: 5,
+        },
+    },
+    wider: 1,
+    row: 392,
 };
 
-const RECEIPT: Name = Name {
-    bytes: [
-        114, 101, 99, 101, 105, 112, 116, 0, 0, 0, 0, 0, 0, 0, 0, 0, 0, 0, 0, 0, 0, 0, 0, 0,
-    ],
-    len: 7,
+const RECEIPT: Kind = Kind {
+    name: Name {
+        text: ShortList {
+            room: *b"receipt\0\0\0\0\0\0\0\0\0\0\0\0\0\0\0\0\0",
+            len: 7,
+        },
+    },
+    wider: 2,
+    row: 304,
 };
 
-const RENT: Name = Name {
-    bytes: [
-        114, 101, 110, 116, 0, 0, 0, 0, 0, 0, 0, 0, 0, 0, 0, 0, 0, 0, 0, 0, 0, 0, 0, 0,
-    ],
-    len: 4,
+const RENT: Kind = Kind {
+    name: Name {
+        text: ShortList {
+            room: *b"rent\0\0\0\0\0\0\0\0\0\0\0\0\0\0\0\0\0\0\0\0",
+            len: 4,
+        },
+    },
+    wider: 16,
+    row: 288,
 };
 
-const RETURNED: Name = Name {
-    bytes: [
-        114, 101, 116, 117, 114, 110, 101, 100, 0, 0, 0, 0, 0, 0, 0, 0, 0, 0, 0, 0, 0, 0, 0, 0,
-    ],
-    len: 8,
+const RETURNED: Kind = Kind {
+    name: Name {
+        text: ShortList {
+            room: *b"returned\0\0\0\0\0\0\0\0\0\0\0\0\0\0\0\0",
+            len: 8,
+        },
+    },
+    wider: 4,
+    row: 192,
 };
 
-const RETURNED_DD: Name = Name {
-    bytes: [
-        114, 101, 116, 117, 114, 110, 101, 100, 95, 100, 100, 0, 0, 0, 0, 0, 0, 0, 0, 0, 0, 0, 0, 0,
-    ],
-    len: 11,
+const RETURNED_DD: Kind = Kind {
+    name: Name {
+        text: ShortList {
+            room: *b"returned_dd\0\0\0\0\0\0\0\0\0\0\0\0\0",
+            len: 11,
+        },
+    },
+    wider: 72,
+    row: 128,
 };
 
-const RENT_DD: Name = Name {
-    bytes: [
-        114, 101, 110, 116, 95, 100, 100, 0, 0, 0, 0, 0, 0, 0, 0, 0, 0, 0, 0, 0, 0, 0, 0, 0,
-    ],
-    len: 7,
+const RENT_DD: Kind = Kind {
+    name: Name {
+        text: ShortList {
+            room: *b"rent_dd\0\0\0\0\0\0\0\0\0\0\0\0\0\0\0\0\0",
+            len: 7,
+        },
+    },
+    wider: 40,
+    row: 256,
 };
 
-const FEE: Name = Name {
-    bytes: [
-        102, 101, 101, 0, 0, 0, 0, 0, 0, 0, 0, 0, 0, 0, 0, 0, 0, 0, 0, 0, 0, 0, 0, 0,
-    ],
-    len: 3,
+const FEE: Kind = Kind {
+    name: Name {
+        text: ShortList {
+            room: *b"fee\0\0\0\0\0\0\0\0\0\0\0\0\0\0\0\0\0\0\0\0\0",
+            len: 3,
+        },
+    },
+    wider: 4,
+    row: 512,
+};
+
+// What lies in the room past the last kind.
+const UNUSED: Kind = Kind {
+    name: BLANK,
+    wider: 0,
+    row: 0,
 };
 
 // Ten kinds: 1 `credit any`, 2 `debit any`, 3 `by_dd any`, 4 `receipt credit`, 5 `rent receipt`, 6 `returned debit`,
 // 7 `returned_dd returned by_dd`, 8 `rent_dd rent by_dd`, 9 `fee debit`.
 pub const SHIPPED: List = List {
     table: Table {
-        count: 10,
-        names: [
-            ANY,
-            CREDIT,
-            DEBIT,
-            BY_DD,
-            RECEIPT,
-            RENT,
-            RETURNED,
-            RETURNED_DD,
-            RENT_DD,
-            FEE,
-            BLANK,
-            BLANK,
-            BLANK,
-            BLANK,
-            BLANK,
-            BLANK,
-            BLANK,
-            BLANK,
-            BLANK,
-            BLANK,
-            BLANK,
-            BLANK,
-            BLANK,
-            BLANK,
-            BLANK,
-            BLANK,
-            BLANK,
-            BLANK,
-            BLANK,
-            BLANK,
-            BLANK,
-            BLANK,
-            BLANK,
-            BLANK,
-            BLANK,
-            BLANK,
-            BLANK,
-            BLANK,
-            BLANK,
-            BLANK,
-            BLANK,
-            BLANK,
-            BLANK,
-            BLANK,
-            BLANK,
-            BLANK,
-            BLANK,
-            BLANK,
-            BLANK,
-            BLANK,
-            BLANK,
-            BLANK,
-            BLANK,
-            BLANK,
-            BLANK,
-            BLANK,
-            BLANK,
-            BLANK,
-            BLANK,
-            BLANK,
-            BLANK,
-            BLANK,
-            BLANK,
-            BLANK,
-        ],
-        wider: [
-            0, 1, 1, 1, 2, 16, 4, 72, 40, 4, 0, 0, 0, 0, 0, 0, 0, 0, 0, 0, 0, 0, 0, 0, 0, 0, 0, 0,
-            0, 0, 0, 0, 0, 0, 0, 0, 0, 0, 0, 0, 0, 0, 0, 0, 0, 0, 0, 0, 0, 0, 0, 0, 0, 0, 0, 0, 0,
-            0, 0, 0, 0, 0, 0, 0,
-        ],
-        rows: [
-            1023, 306, 708, 392, 304, 288, 192, 128, 256, 512, 0, 0, 0, 0, 0, 0, 0, 0, 0, 0, 0, 0,
-            0, 0, 0, 0, 0, 0, 0, 0, 0, 0, 0, 0, 0, 0, 0, 0, 0, 0, 0, 0, 0, 0, 0, 0, 0, 0, 0, 0, 0,
-            0, 0, 0, 0, 0, 0, 0, 0, 0, 0, 0, 0, 0,
-        ],
+        kinds: ShortList {
+            room: [
+                WIDEST,
+                CREDIT,
+                DEBIT,
+                BY_DD,
+                RECEIPT,
+                RENT,
+                RETURNED,
+                RETURNED_DD,
+                RENT_DD,
+                FEE,
+                UNUSED,
+                UNUSED,
+                UNUSED,
+                UNUSED,
+                UNUSED,
+                UNUSED,
+                UNUSED,
+                UNUSED,
+                UNUSED,
+                UNUSED,
+                UNUSED,
+                UNUSED,
+                UNUSED,
+                UNUSED,
+                UNUSED,
+                UNUSED,
+                UNUSED,
+                UNUSED,
+                UNUSED,
+                UNUSED,
+                UNUSED,
+                UNUSED,
+                UNUSED,
+                UNUSED,
+                UNUSED,
+                UNUSED,
+                UNUSED,
+                UNUSED,
+                UNUSED,
+                UNUSED,
+                UNUSED,
+                UNUSED,
+                UNUSED,
+                UNUSED,
+                UNUSED,
+                UNUSED,
+                UNUSED,
+                UNUSED,
+                UNUSED,
+                UNUSED,
+                UNUSED,
+                UNUSED,
+                UNUSED,
+                UNUSED,
+                UNUSED,
+                UNUSED,
+                UNUSED,
+                UNUSED,
+                UNUSED,
+                UNUSED,
+                UNUSED,
+                UNUSED,
+                UNUSED,
+                UNUSED,
+            ],
+            len: 10,
+        },
     },
 };
 
@@ -179,32 +215,28 @@ pub fn shipped() -> List
     constant()
 }
 
-// The line of a shipped kind: 0 for the first one past `any`.
-fn line(i: usize) -> &'static [u8]
-    ensures { result.now ≡ slice_index_or shipped_lines i [] }
-{
-    match i {
-        0 => b"credit any",
-        1 => b"debit any",
-        2 => b"by_dd any",
-        3 => b"receipt credit",
-        4 => b"rent receipt",
-        5 => b"returned debit",
-        6 => b"returned_dd returned by_dd",
-        7 => b"rent_dd rent by_dd",
-        8 => b"fee debit",
-        _ => b"",
-    }
-}
+// The lines of the shipped kinds, from the first one past `any`.
+const LINES: [&[u8]; 9] = [
+    b"credit any",
+    b"debit any",
+    b"by_dd any",
+    b"receipt credit",
+    b"rent receipt",
+    b"returned debit",
+    b"returned_dd returned by_dd",
+    b"rent_dd rent by_dd",
+    b"fee debit",
+];
 
-// Declares the nine lines in a new draft and closes it.
-fn declare_lines(list: &mut List) -> Result<(), Refusal>
+// Declares these lines in a new draft and closes it.
+fn declare_lines(lines: &[&[u8]], list: &mut List) -> Result<(), Refusal>
+    requires { map (λ line. line.now) lines.now ≡ shipped_lines }
     ensures answer { result ≡ Ok tt }
     ensures after { listing list.new ≡ shipped_kinds }
 {
     let mut draft = Draft::new();
-    for i in 0..9 {
-        let _ = draft.declare(line(i))?;
+    for line in lines {
+        draft.declare(line)?;
     }
     draft.close(list)
 }
@@ -214,5 +246,5 @@ pub fn declare_shipped(list: &mut List) -> Result<(), Refusal>
     ensures answer { result ≡ Ok tt }
     ensures after { listing list.new ≡ shipped_kinds }
 {
-    declare_lines(list)
+    declare_lines(&LINES, list)
 }

@@ -4,15 +4,14 @@ ghost use Rattle.grammar.specs.Scanner.{here, state, begin, comma, in_feature};
 ghost use Rattle.declarations.specs.Names.{name_byte};
 ghost use Rattle.grammar.specs.Words.{capital};
 ghost use Rattle.reading.specs.Links.{links};
-ghost use Rattle.reading.specs.Notes.{noted};
+ghost use Rattle.reading.specs.Notes.{noted, variables, statements};
 ghost use Rattle.reading.specs.Reading.{Ended, AtKind, HeadRead, BodyRead, ClosingRead, ArrowRead, FeatureRead};
 
 use crate::notes::Notes;
-use crate::reader::{
-    Body, Class, Closing, Head, Link, Mark, Reader, Token, is_capital, is_lower, is_text_byte,
-    say_link,
-};
+use crate::reader::{Body, Class, Closing, Head, Link, Mark, Reader, Token, is_capital};
+use declarations::line::is_letter;
 use grammar::statement::Statement;
+use orders::texts::is_text_byte;
 use refusals::Refusal;
 
 pub mod trees;
@@ -20,17 +19,19 @@ pub mod trees;
 // How many parentheses may be open.
 const OPEN: usize = 16;
 
-impl<'a> Reader<'a> {
+// Notes are lent beside the reader: as a part of it, each step would have to promise that the line stays. Places are plain
+// numbers within the line: a type for them would be taken apart at each step for the place that a token or a refusal keeps.
+impl<'a, 'f> Reader<'a, 'f> {
     // A name and, where a colon follows, the colon.
-    fn named(&self, notes: &mut Notes, from: Option<Link>, at: usize) -> Result<Head, Refusal>
-        requires { (at < length self.now.line.now) × ((capital (slice_index self.now.line.now at) ≡ true) × ((notes.old.variables < 200) × (notes.old.count + links from < 400))) }
-        ensures answer { (d : ℕ) → here self.now.line.now at ≡ Some (state begin d) → HeadRead self.now.line.now from at d (noted self.now.line.now notes.old) (noted self.now.line.now notes.new) result }
-        ensures counts { (notes.new.variables ≤ notes.old.variables + 1) × (notes.new.count ≤ notes.old.count + links from) }
+    fn named(&self, notes: &mut Notes<'a>, from: Option<Link>, at: usize) -> Result<Head, Refusal>
+        requires { (at < length self.now.line.now) × ((capital (slice_index self.now.line.now at) ≡ true) × ((variables notes.old < 200) × (statements notes.old + links from < 400))) }
+        ensures answer { (d : ℕ) → here self.now.line.now at ≡ Some (state begin d) → HeadRead self.now.line.now from at d (noted notes.old) (noted notes.new) result }
+        ensures counts { (variables notes.new ≤ variables notes.old + 1) × (statements notes.new ≤ statements notes.old + links from) }
     {
         let name = self.short_word(Class::Name, at)?;
         let end = at + name.text.len();
-        let found = notes.meet(self.line, name.span());
-        say_link(notes, from, found.variable);
+        let found = notes.meet(name.text);
+        notes.say_link(from, found.variable);
         match self.mark(end) {
             Mark::Colon => {
                 notes.mark(found.known, at);
@@ -44,10 +45,10 @@ impl<'a> Reader<'a> {
     }
 
     // The front of a term, with its variable and the statement that leads to it.
-    fn head(&self, notes: &mut Notes, from: Option<Link>, at: usize) -> Result<Head, Refusal>
-        requires { (at ≤ length self.now.line.now) × ((at < length self.now.line.now → (notes.old.variables < 200) × (notes.old.count + links from < 400))) }
-        ensures answer { (d : ℕ) → here self.now.line.now at ≡ Some (state begin d) → HeadRead self.now.line.now from at d (noted self.now.line.now notes.old) (noted self.now.line.now notes.new) result }
-        ensures counts { (notes.new.variables ≤ notes.old.variables + 1) × (notes.new.count ≤ notes.old.count + links from) }
+    fn head(&self, notes: &mut Notes<'a>, from: Option<Link>, at: usize) -> Result<Head, Refusal>
+        requires { (at ≤ length self.now.line.now) × ((at < length self.now.line.now → (variables notes.old < 200) × (statements notes.old + links from < 400))) }
+        ensures answer { (d : ℕ) → here self.now.line.now at ≡ Some (state begin d) → HeadRead self.now.line.now from at d (noted notes.old) (noted notes.new) result }
+        ensures counts { (variables notes.new ≤ variables notes.old + 1) × (statements notes.new ≤ statements notes.old + links from) }
     {
         let Some(byte) = self.byte(at) else {
             return Err(Refusal::Grammar { place: at });
@@ -59,29 +60,34 @@ impl<'a> Reader<'a> {
             return Err(Refusal::Grammar { place: at });
         }
         let variable = notes.meet_unnamed();
-        say_link(notes, from, variable);
+        notes.say_link(from, variable);
         Ok(Head::Described { variable, at })
     }
 
     // The kind text of a description, with its statement.
     fn body(
         &self,
-        notes: &mut Notes,
+        notes: &mut Notes<'a>,
         variable: usize,
         at: usize,
         depth: usize,
     ) -> Result<Body, Refusal>
-        requires { (at ≤ length self.now.line.now) × (notes.old.count < 399) }
-        ensures answer { AtKind self.now.line.now at depth → BodyRead self.now.line.now variable at depth (noted self.now.line.now notes.old) (noted self.now.line.now notes.new) result }
-        ensures counts { (notes.new.variables ≡ notes.old.variables) × (notes.new.count ≤ notes.old.count + 1) }
+        requires { (at ≤ length self.now.line.now) × (statements notes.old < 399) }
+        ensures answer { AtKind self.now.line.now at depth → BodyRead self.now.line.now variable at depth (noted notes.old) (noted notes.new) result }
+        ensures counts { (variables notes.new ≡ variables notes.old) × (statements notes.new ≤ statements notes.old + 1) }
     {
         let text = self.word(Class::Kind, at);
         if text.text.is_empty() {
             return Err(Refusal::Grammar { place: at });
         }
         let end = at + text.text.len();
-        let kind = text.span();
-        notes.say(Statement::Kind { variable, kind }, at);
+        notes.say(
+            Statement::Kind {
+                variable,
+                kind: text.text,
+            },
+            at,
+        );
         match self.mark(end) {
             Mark::Open => {
                 if depth >= OPEN {
@@ -127,7 +133,7 @@ impl<'a> Reader<'a> {
         let Some(byte) = self.byte(at) else {
             return Err(Refusal::Grammar { place: at });
         };
-        if !is_lower(byte) {
+        if !is_letter(byte) {
             return Err(Refusal::Grammar { place: at });
         }
         let word = self.short_word(Class::Feature, at)?;

@@ -1,12 +1,13 @@
 // The statements of a line, noted with kind texts, as the statements of a term with kinds.
-ghost use Rattle.std.specs.Prelude.{◌≡◌, ℕ, ◌+◌, ◌<◌, ◌≤◌, true, List, [], ◌∷◌, ◌++◌, length, is_ok, is_err, vec_len, vec_capacity, Result as Answered, slice_index};
+ghost use Rattle.std.specs.Prelude.{◌≡◌, ℕ, ◌+◌, ◌<◌, ◌≤◌, true, List, [], ◌∷◌, ◌++◌, map, length, is_ok, is_err, vec_len, vec_capacity, Result as Answered, slice_index};
 ghost use Rattle.refusals.specs.declared.Refusal.{Refusal as Refused};
 ghost use Rattle.grammar.specs.declared.statement.Said.{Said as Row};
 ghost use Rattle.grammar.specs.Lines.{Answers};
 ghost use Rattle.grammar.specs.Lawful.{depths as depths_of, statements as statements_of};
 ghost use Rattle.grammar.specs.Only.{OnlyReads};
 ghost use Rattle.features.specs.Model.{feature_names};
-ghost use Rattle.reading.specs.Notes.{noted, statement_in};
+ghost use Rattle.reading.specs.Notes.{statement_of};
+ghost use Rattle.reading.specs.Notes.{said_of as in_line};
 ghost use Rattle.terms.specs.Kinds.{StatementOf, FirstWrong, Readable, Found};
 ghost use Rattle.terms.specs.Terms.{said_of, room_of, features_of, depths_in};
 
@@ -17,20 +18,15 @@ use orders::texts::WrittenOrder;
 use orders::whole::whole_kind;
 use reading::notes::Notes;
 use reading::reader::heads::trees::note;
-use reading::span::{Span, bytes_of};
 use refusals::Refusal;
 
 // A statement with the kind that has its text, or none where no kind has it.
-fn with_kind<O: WrittenOrder>(
-    order: &O,
-    line: &[u8],
-    statement: Statement<Span>,
-) -> Option<Statement<O::Kind>>
-    ensures { StatementOf (O.texts order.now) (statement_in line.now statement) result }
+fn with_kind<O: WrittenOrder>(order: &O, statement: Statement<&[u8]>) -> Option<Statement<O::Kind>>
+    ensures { StatementOf (O.texts order.now) (statement_of statement.entry) result }
 {
     match statement {
         Statement::Kind { variable, kind } => {
-            let kind = whole_kind(order, bytes_of(line, kind))?;
+            let kind = whole_kind(order, kind)?;
             Some(Statement::Kind { variable, kind })
         }
         Statement::Feature {
@@ -46,31 +42,27 @@ fn with_kind<O: WrittenOrder>(
 }
 
 // The place of the first kind text that no kind has.
-fn first_wrong<O: WrittenOrder>(order: &O, line: &[u8], notes: &Notes) -> Option<usize>
-    ensures first { FirstWrong (O.texts order.now) (noted line.now notes.now).said result }
-    ensures count { length (noted line.now notes.now).said ≡ notes.now.count }
+fn first_wrong<O: WrittenOrder>(order: &O, noted: &[Said<&[u8]>]) -> Option<usize>
+    ensures { FirstWrong (O.texts order.now) (map in_line noted.now) result }
 {
-    for i in 0..notes.count {
-        let said = notes.said[i];
-        match with_kind(order, line, said.statement) {
-            Some(_) => {}
-            None => return Some(said.place),
+    // With `find` the proof did not close: the kinds of those before are wanted too, and its clause does not give them.
+    for said in noted {
+        if with_kind(order, said.statement).is_none() {
+            return Some(said.place);
         }
     }
     None
 }
 
-// The depth of a variable, 0 past the last one.
+// The depth of a variable, 0 past the last one, as the clauses of depths have it.
 fn depth_of(depths: &[usize], variable: usize) -> usize
     ensures { result ≡ slice_index depths.now variable }
 {
-    if variable < depths.len() {
-        depths[variable]
-    } else {
-        0
-    }
+    depths.get(variable).copied().unwrap_or(0)
 }
 
+// The facts of a `Term` do not hold while it is filled: so its rows and depths are lent below, and not the term.
+//
 // One statement more, and where its value is the next variable the depth of that.
 fn push<K: Copy>(rows: &mut Vec<Said<K>>, depths: &mut Vec<usize>, said: Said<K>)
     requires room { (vec_len rows.old < vec_capacity rows.old) × (vec_len depths.old < vec_capacity depths.old) }
@@ -95,34 +87,26 @@ fn push<K: Copy>(rows: &mut Vec<Said<K>>, depths: &mut Vec<usize>, said: Said<K>
     rows.push_reserved(said);
 }
 
-// The statements of the notes, each with its kind, in the place of those in memory.
+// Noted statements, each with its kind, in the place of those in memory.
 fn fill<O: WrittenOrder>(
     order: &O,
-    line: &[u8],
-    notes: &Notes,
+    noted: &[Said<&[u8]>],
     rows: &mut Vec<Said<O::Kind>>,
     depths: &mut Vec<usize>,
 )
-    requires kinds { Readable (O.texts order.now) (noted line.now notes.now).said }
-    requires room { (notes.now.count ≤ vec_capacity rows.old) × (notes.now.count + 1 ≤ vec_capacity depths.old) }
-    ensures read { OnlyReads (O.texts order.now) (noted line.now notes.now).said rows.new.items }
+    requires kinds { Readable (O.texts order.now) (map in_line noted.now) }
+    requires room { (length noted.now ≤ vec_capacity rows.old) × (length noted.now + 1 ≤ vec_capacity depths.old) }
+    ensures read { OnlyReads (O.texts order.now) (map in_line noted.now) rows.new.items }
     ensures deep { depths.new.items ≡ depths_of (statements_of rows.new.items) }
     ensures capacity { (vec_capacity rows.new ≡ vec_capacity rows.old) × (vec_capacity depths.new ≡ vec_capacity depths.old) }
 {
     rows.clear();
     depths.clear();
     depths.push_reserved(0);
-    for i in 0..notes.count {
-        let said = notes.said[i];
-        let statement = with_kind(order, line, said.statement).unwrap();
-        push(
-            rows,
-            depths,
-            Said {
-                statement,
-                place: said.place,
-            },
-        );
+    for said in noted {
+        let statement = with_kind(order, said.statement).unwrap();
+        let place = said.place;
+        push(rows, depths, Said { statement, place });
     }
 }
 
@@ -131,28 +115,29 @@ fn finish<K: Copy, O: WrittenOrder<Kind = K>>(
     term: &mut Term<K>,
     order: &O,
     features: usize,
-    line: &[u8],
-    notes: &Notes,
+    notes: &Notes<'_>,
 ) -> Result<(), Refusal>
-    requires { (F : List (List ℕ)) × Found F features line.now notes.now }
-    ensures answer { (F : List (List ℕ)) → Found F features line.now notes.now → Answers (O.texts order.now) F (room_of term.old) line.now (said_of term.new) result }
-    ensures fixed { (F : List (List ℕ)) → Found F features line.now notes.now → (s : Answered (Unit {0}) Refused) (vs : List (Row K)) → Answers (O.texts order.now) F (room_of term.old) line.now vs s → (s ≡ result) × (is_ok result ≡ true → vs ≡ said_of term.new) }
+    requires { (F : List (List ℕ)) × (line : List ℕ) × Found F features line notes.now }
+    ensures answer { (F : List (List ℕ)) (line : List ℕ) → Found F features line notes.now → Answers (O.texts order.now) F (room_of term.old) line (said_of term.new) result }
+    ensures fixed { (F : List (List ℕ)) (line : List ℕ) → Found F features line notes.now → (s : Answered (Unit {0}) Refused) (vs : List (Row K)) → Answers (O.texts order.now) F (room_of term.old) line vs s → (s ≡ result) × (is_ok result ≡ true → vs ≡ said_of term.new) }
     ensures kept { is_err result ≡ true → term.new ≡ term.old }
     ensures few { is_ok result ≡ true → (length (said_of term.new) ≤ 399) × (length (depths_in term.new) ≤ 200) }
     ensures fields { (room_of term.new ≡ room_of term.old) × (is_ok result ≡ true → features_of term.new ≡ features) }
 {
-    if let Some(place) = first_wrong(order, line, notes) {
+    let noted = notes.said.as_slice();
+    if let Some(place) = first_wrong(order, noted) {
         return Err(Refusal::Kind { place });
     }
-    if notes.count > term.room {
+    if noted.len() > term.room {
         return Err(Refusal::Memory);
     }
-    fill(order, line, notes, &mut term.rows, &mut term.depths);
+    fill(order, noted, &mut term.rows, &mut term.depths);
     term.features = features;
     Ok(())
 }
 
-// Notes what the line says, and puts it into the term.
+// Notes what the line says, and puts it into the term. The clauses are those of `read`, which is thin: the answers to the goals here
+// name steps of this code, and an edit of `read` is to be refused by a fact. The parameters are those of `read` too.
 fn read_line<K: Copy, O: WrittenOrder<Kind = K>>(
     term: &mut Term<K>,
     order: &O,
@@ -166,7 +151,7 @@ fn read_line<K: Copy, O: WrittenOrder<Kind = K>>(
     ensures fields { (room_of term.new ≡ room_of term.old) × (is_ok result ≡ true → features_of term.new ≡ length (feature_names features.now)) }
 {
     match note(features, line) {
-        Ok(notes) => finish(term, order, features.len(), line, &notes),
+        Ok(notes) => finish(term, order, features.len(), &notes),
         Err(refusal) => Err(refusal),
     }
 }

@@ -4,7 +4,7 @@ ghost use Rattle.grammar.specs.Lawful.{statements as statements_of};
 ghost use Rattle.terms.specs.Terms.{said_of, room_of, features_of, depths_in, From0, From1};
 
 use super::Term;
-use grammar::statement::Statement;
+use grammar::statement::{Said, Statement};
 use std::alloc::{AllocError, Global};
 
 impl<K: Copy> Term<K> {
@@ -51,29 +51,28 @@ impl<K: Copy> Term<K> {
     pub fn statement(&self, number: usize) -> Option<Statement<K>>
         ensures { From1 (statements_of (said_of self.now)) number result }
     {
-        if number == 0 || number > self.rows.len() {
-            return None;
-        }
-        Some(self.rows[number - 1].statement)
+        Some(self.row(number)?.statement)
     }
 
     // The first byte, in its line, of the word that the statement with this number came from.
     pub fn place(&self, number: usize) -> Option<usize>
         ensures { From1 (map (λ s. s.place) (said_of self.now)) number result }
     {
-        if number == 0 || number > self.rows.len() {
-            return None;
-        }
-        Some(self.rows[number - 1].place)
+        Some(self.row(number)?.place)
+    }
+
+    // The statement with this number, from 1, and its place.
+    fn row(&self, number: usize) -> Option<Said<K>>
+        ensures { From1 (said_of self.now) number result }
+    {
+        let index = number.checked_sub(1)?;
+        self.rows.get(index).copied()
     }
 
     // The depth of this variable, from 0.
     pub fn depth(&self, variable: usize) -> Option<usize>
         ensures { From0 (depths_in self.now) variable result }
     {
-        if variable >= self.depths.len() {
-            return None;
-        }
-        Some(self.depths[variable])
+        self.depths.get(variable).copied()
     }
 }

@@ -1,7 +1,8 @@
-use Rattle.orders.proofs.Wholes.{reads}
+use Rattle.std.proofs.Common.{rules}
+use Rattle.orders.proofs.Wholes.{kind_read}
 use Rattle.orders.proofs.whole.whole_kind.Goals as goal
 
 pub returns : goal.returns
 returns g c =
-    rw c.all_taken.ensures
-    (reads (g.O.WrittenOrder.texts c.args.order.now) c.args.text.now c.read.result c.read.ensures.read_back c.read.ensures.taken)
+    kind_read (g.O.WrittenOrder.texts c.args.order.now) c.args.text.now c.then_some.result c.in_ok-kind.kind c.in_ok-kind.taken
+    (search rules) c.in_ok-kind.ensures.read_back c.in_ok-kind.ensures.taken

@@ -2,27 +2,26 @@
 ghost use Rattle.std.specs.Prelude.{◌≡◌, ℕ, suc, ◌+◌, ◌<◌, ◌≤◌, List, length, Some};
 ghost use Rattle.features.specs.Model.{feature_names};
 ghost use Rattle.grammar.specs.Scanner.{here, state, begin, comma};
+ghost use Rattle.grammar.specs.Told.{nothing};
 ghost use Rattle.reading.specs.Reading.{Seen, LooksUp, RoomAt, RoomAfter, TermRead, ListRead, RootRead, NotesOf};
 ghost use Rattle.reading.specs.Notes.{noted};
 
 use crate::notes::Notes;
 use crate::reader::{Body, Closing, Head, Link, Reader};
-use features::table::Features;
-use refusals::Refusal;
+use features::table::{Features, MOST};
+use refusals::{LONGEST_LINE, Refusal};
 
-// The longest line, in bytes.
-const LINE: usize = 1000;
-
-// A feature in its list.
+// A feature in its list: its number, which is the length where it is unknown, stands in the statement also where it is wrong.
 #[derive(Clone, Copy)]
 struct Looked {
     feature: usize,
     wrong: bool,
-    seen: [bool; 16],
+    // a mark for each feature that there may be, by its number: an array without a length beside
+    seen: [bool; MOST],
 }
 
 // The number of a feature, whether it is unknown or stands in the list already, and the marks with it.
-fn look_up(features: &Features, word: &[u8], seen: [bool; 16]) -> Looked
+fn look_up(features: &Features, word: &[u8], seen: [bool; MOST]) -> Looked
     ensures { (words : List (List ℕ)) → Seen (feature_names features.now) words seen → LooksUp (feature_names features.now) words word.now result }
 {
     match features.find(word) {
@@ -43,19 +42,18 @@ fn look_up(features: &Features, word: &[u8], seen: [bool; 16]) -> Looked
     }
 }
 
-impl<'a> Reader<'a> {
+impl<'a, 'f> Reader<'a, 'f> {
     // A term that begins here, under so many open parentheses, and where it ends.
     #[cycle(list_term)]
     fn term(
         &self,
-        features: &Features,
-        notes: &mut Notes,
+        notes: &mut Notes<'a>,
         from: Option<Link>,
         at: usize,
         depth: usize,
     ) -> Result<usize, Refusal>
-        requires { (length self.now.line.now ≤ 1000) × ((at ≤ length self.now.line.now) × ((here self.now.line.now at ≡ Some (state begin depth)) × ((RoomAt at from notes.old) × (depth ≤ 16)))) }
-        ensures { TermRead (feature_names features.now) self.now.line.now from at depth notes.old notes.new result }
+        requires { (at ≤ length self.now.line.now) × ((here self.now.line.now at ≡ Some (state begin depth)) × ((RoomAt at from notes.old) × (depth ≤ 16))) }
+        ensures { TermRead (feature_names self.now.features.now) self.now.line.now from at depth notes.old notes.new result }
     {
         let head = self.head(notes, from, at)?;
         match head {
@@ -65,7 +63,7 @@ impl<'a> Reader<'a> {
                 match body {
                     Body::Ends { end } => Ok(end),
                     Body::Opens { at: list } => {
-                        self.list(features, notes, variable, [false; 16], list, depth)
+                        self.list(notes, variable, [false; MOST], list, depth)
                     }
                 }
             }
@@ -76,56 +74,55 @@ impl<'a> Reader<'a> {
     #[cycle(list_term)]
     fn list(
         &self,
-        features: &Features,
-        notes: &mut Notes,
+        notes: &mut Notes<'a>,
         variable: usize,
-        seen: [bool; 16],
+        seen: [bool; MOST],
         at: usize,
         depth: usize,
     ) -> Result<usize, Refusal>
-        requires { (length self.now.line.now ≤ 1000) × ((at < length self.now.line.now) × ((here self.now.line.now (at + 1) ≡ Some (state comma (suc depth))) × ((RoomAfter at notes.old) × (depth < 16)))) }
-        ensures { (words : List (List ℕ)) → Seen (feature_names features.now) words seen → ListRead (feature_names features.now) self.now.line.now variable words at depth notes.old notes.new result }
+        requires { (at < length self.now.line.now) × ((here self.now.line.now (at + 1) ≡ Some (state comma (suc depth))) × ((RoomAfter at notes.old) × (depth < 16))) }
+        ensures { (words : List (List ℕ)) → Seen (feature_names self.now.features.now) words seen → ListRead (feature_names self.now.features.now) self.now.line.now variable words at depth notes.old notes.new result }
     {
         let place = at + 1;
         let word = self.feature(place)?;
         let value = place + word.text.len() + 2;
-        let looked = look_up(features, word.text, seen);
+        let looked = look_up(self.features, word.text, seen);
         notes.mark(looked.wrong, place);
         let link = Link {
             variable,
             feature: looked.feature,
             place,
         };
-        let end = self.term(features, notes, Some(link), value, depth + 1)?;
+        let end = self.term(notes, Some(link), value, depth + 1)?;
         match self.after_item(end)? {
-            Closing::More => self.list(features, notes, variable, looked.seen, end, depth),
+            Closing::More => self.list(notes, variable, looked.seen, end, depth),
             Closing::Done => Ok(end + 1),
         }
     }
 }
 
 // The root of the line, which is the whole line.
-fn root(features: &Features, line: &[u8], notes: &mut Notes) -> Result<(), Refusal>
-    requires { (length line.now ≤ 1000) × ((notes.old.variables ≡ 0) × (notes.old.count ≡ 0)) }
-    ensures { RootRead (feature_names features.now) line.now (noted line.now notes.old) (noted line.now notes.new) result }
+fn root<'a>(reader: &Reader<'a, '_>, notes: &mut Notes<'a>) -> Result<(), Refusal>
+    requires { noted notes.old ≡ nothing }
+    ensures { RootRead (feature_names reader.now.features.now) reader.now.line.now (noted notes.old) (noted notes.new) result }
 {
-    let reader = Reader { line };
-    let end = reader.term(features, notes, None, 0, 0)?;
-    if end < line.len() {
+    let end = reader.term(notes, None, 0, 0)?;
+    if end < reader.line.len() {
         return Err(Refusal::Grammar { place: end });
     }
     Ok(())
 }
 
-// What a line says, with its kinds by the places of their texts, or a refusal for reason 1, 2 or 3.
-pub fn note(features: &Features, line: &[u8]) -> Result<Notes, Refusal>
+// What a line says, with its kinds by their texts, or a refusal for reason 1, 2 or 3.
+pub fn note<'a>(features: &Features, line: &'a [u8]) -> Result<Notes<'a>, Refusal>
     ensures { NotesOf (feature_names features.now) line.now result }
 {
-    if line.len() > LINE {
+    if line.len() > LONGEST_LINE {
         return Err(Refusal::Limit { place: 0 });
     }
+    let reader = Reader { line, features };
     let mut notes = Notes::new();
-    root(features, line, &mut notes)?;
+    root(&reader, &mut notes)?;
     match notes.wrong {
         Some(place) => Err(Refusal::Word { place }),
         None => Ok(notes),

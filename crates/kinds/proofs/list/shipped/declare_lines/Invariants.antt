@@ -3,5 +3,5 @@ use Rattle.kinds.specs.Lists.{drafted}
 use Rattle.kinds.specs.Shipped.{shipped}
 use Rattle.kinds.proofs.list.shipped.declare_lines.Given as goal
 
-abbrev pub invariant-loop-i : goal.invariant-loop-i
-invariant-loop-i l = drafted l.draft ≡ take (l.i + 1) shipped
+abbrev pub invariant-loop-line : goal.invariant-loop-line
+invariant-loop-line l = drafted l.draft ≡ take (l.line-index + 1) shipped

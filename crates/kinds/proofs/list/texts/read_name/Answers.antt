@@ -1,9 +1,7 @@
-use native.Mathlib.Nat.{sub-zero}
-use Rattle.std.proofs.Common.{take, Some, None}
+use Rattle.std.proofs.Common.{take}
 use Rattle.orders.proofs.Singles.{none_back, some_back, some_taken}
 use Rattle.declarations.proofs.Named.{single, reads_name, reads_none}
 use Rattle.kinds.specs.Lists.{listing, list_texts}
-use Rattle.kinds.specs.Model.{Finds}
 use Rattle.kinds.proofs.list.texts.read_name.Goals as goal
 
 pub returns-in_err-kind : goal.returns-in_err-kind
@@ -12,9 +10,8 @@ returns-in_err-kind c =
     let bytes = c.args.bytes.now in
     let end = c.stop-end.result in
     let s = c.stop-end.ensures in
-    let f : Finds (listing list) (take end bytes) None = rw sub-zero at c.in_err-kind.ensures in
     rw c.from_residual.ensures
-    (record { read_back = none_back (list_texts list) (single (listing list) list.table.sound) bytes end s (reads_none (listing list) list.table.sound (take end bytes) f); taken = tt })
+    (record { read_back = none_back (list_texts list) (single (listing list) list.table.sound) bytes end s (reads_none (listing list) list.table.sound (take end bytes) c.in_err-kind.ensures); taken = tt })
 
 pub returns : goal.returns
 returns c =
@@ -23,7 +20,7 @@ returns c =
     let end = c.stop-end.result in
     let kind = c.in_ok-kind.kind in
     let s = c.stop-end.ensures in
-    let f : Finds (listing list) (take end bytes) (Some kind) = rw sub-zero at c.in_ok-kind.ensures in
+    let f = c.in_ok-kind.ensures in
     let r = reads_name (listing list) list.table.sound kind (take end bytes) f.0 f.1 in
     record {
       read_back = some_back (list_texts list) (single (listing list) list.table.sound) bytes end s kind r;

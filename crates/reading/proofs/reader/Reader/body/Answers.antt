@@ -1,22 +1,15 @@
-use Rattle.std.proofs.Common.{◌≡◌, ◌<◌, length, sym, refl, ap, ◌∙◌, arith}
+use Rattle.std.proofs.Common.{◌≡◌, ◌<◌, length, sym, refl, ◌∙◌, arith}
 use Rattle.std.proofs.lemmas.Bool.{eqb-true, eqb-false}
 use Rattle.grammar.specs.declared.statement.Statement.TheVariants.{Kind}
 use Rattle.grammar.specs.Told.{say}
-use Rattle.reading.specs.Notes.{noted, part}
+use Rattle.reading.specs.Notes.{noted}
 use Rattle.reading.proofs.Describing.{no_text, text-lawful, no_list, too_deep, open_list}
-use Rattle.reading.proofs.Spanning.{spans-part}
 use Rattle.reading.proofs.reader.Reader.body.Goals as goal
 use Rattle.reading.proofs.reader.Reader.body.Goals.{After-mark}
 
 -- what is said of the kind text
-told : (c : After-mark) → noted c.args.self.now.line.now c.say.new.self ≡ say (Kind c.args.variable c.word-text.result.text.now) c.args.at (noted c.args.self.now.line.now c.args.notes.now)
-told c =
-    let line = c.args.self.now.line.now in
-    let w = c.word-text.result.text.now in
-    let (g, place) = c.word-text.ensures in
-    let p : part line c.span-kind.result ≡ w =
-    ap (part line) c.span-kind.ensures ∙ ap (λ n. part line (record { place = n; len = length w })) place ∙ spans-part line c.args.at _ w g.spans in
-    c.say.ensures.told line ∙ ap (λ x. say (Kind c.args.variable x) c.args.at (noted line c.args.notes.now)) p
+told : (c : After-mark) → noted c.say.new.self ≡ say (Kind c.args.variable c.word-text.result.text.now) c.args.at (noted c.args.notes.now)
+told c = c.say.ensures.told
 
 some : (c : After-mark) → 0 < length c.word-text.result.text.now
 some c = omega (arith, eqb-false _ 0 (sym c.if-is_empty.ensures))

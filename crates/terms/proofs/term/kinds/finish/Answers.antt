@@ -1,6 +1,11 @@
-use Rattle.std.proofs.Common.{◌<◌, ◌≤◌, length, vec_items, refl, arith}
+use Rattle.std.proofs.Common.{◌<◌, ◌≤◌, map, length, vec_items, refl, ap, subst, arith}
 use Rattle.std.proofs.lemmas.Bool.{both_ways}
 use Rattle.refusals.specs.declared.Refusal.TheVariants.{Kind, Memory}
+use Rattle.std.proofs.lemmas.List.{length-map}
+use Rattle.reading.specs.Notes.{said_of}
+use Rattle.grammar.specs.Lines.{WrongKind}
+use Rattle.grammar.specs.Only.{OnlyReads}
+use Rattle.terms.specs.Kinds.{Readable}
 use Rattle.grammar.proofs.OnlyKinds.{only_reads}
 use Rattle.grammar.proofs.SameKinds.{same_length}
 use Rattle.terms.proofs.Finishing.{refused_kind, refused_memory, accepted, lawful-read, few_read, settled, settled_refusal}
@@ -11,30 +16,28 @@ returns-in-Some g c =
     let m = g.O.WrittenOrder.texts c.args.order.now in
     let n = c.args.features in
     let room = c.args.term.now.room in
-    let line = c.args.line.now in
     let notes = c.args.notes.now in
     let p = c.in-Some.place in
-    let w = c.in-Some.ensures.first in
+    let w = subst (λ ss. WrongKind m (map said_of ss) p) c.as_slice-noted.ensures.value c.in-Some.ensures in
     record {
-      answer = λ F f. refused_kind m F n line notes f room p w;
-      fixed = λ F f. settled_refusal m F n line notes f room (Kind p) _ (refused_kind m F n line notes f room p w);
+      answer = λ F line f. refused_kind m F n line notes f room p w;
+      fixed = λ F line f. settled_refusal m F n line notes f room (Kind p) _ (refused_kind m F n line notes f room p w);
       kept = λ k. refl;
       few = λ k. absurd (both_ways _ refl k);
       fields = (refl, λ k. absurd (both_ways _ refl k));
     }
 
-pub returns-then-notes-term : goal.returns-then-notes-term
-returns-then-notes-term g c =
+pub returns-then-noted-term : goal.returns-then-noted-term
+returns-then-noted-term g c =
     let m = g.O.WrittenOrder.texts c.args.order.now in
     let n = c.args.features in
     let room = c.args.term.now.room in
-    let line = c.args.line.now in
     let notes = c.args.notes.now in
-    let (us, o) = c.in_default.ensures.first in
-    let over : room < length us = omega (arith, same_length m _ us (only_reads m _ us o), c.first_wrong.ensures.count) in
+    let (us, o) = subst (λ ss. Readable m (map said_of ss)) c.as_slice-noted.ensures.value c.in_default.ensures in
+    let over : room < length us = omega (arith, same_length m _ us (only_reads m _ us o), length-map notes.said.items said_of, ap length c.as_slice-noted.ensures.value) in
     record {
-      answer = λ F f. refused_memory m F n line notes f us o room over;
-      fixed = λ F f. settled_refusal m F n line notes f room Memory _ (refused_memory m F n line notes f us o room over);
+      answer = λ F line f. refused_memory m F n line notes f us o room over;
+      fixed = λ F line f. settled_refusal m F n line notes f room Memory _ (refused_memory m F n line notes f us o room over);
       kept = λ k. refl;
       few = λ k. absurd (both_ways _ refl k);
       fields = (refl, λ k. absurd (both_ways _ refl k));
@@ -44,13 +47,12 @@ pub invariant_of-term : goal.invariant_of-term
 invariant_of-term g c =
     let m = g.O.WrittenOrder.texts c.args.order.now in
     let t = c.args.term.now in
-    let line = c.args.line.now in
     let notes = c.args.notes.now in
     let rows = c.fill.new.rows in
     let us = vec_items rows in
-    let o = c.fill.ensures.read in
-    let (F, f) = c.requires in
-    let fits : rows.len ≤ t.room = omega (arith, same_length m _ us (only_reads m _ us o), c.first_wrong.ensures.count, rows.ok.0, c.if-notes-term.false) in
+    let o = subst (λ ss. OnlyReads m (map said_of ss) us) c.as_slice-noted.ensures.value c.fill.ensures.read in
+    let (F, line, f) = c.requires in
+    let fits : rows.len ≤ t.room = omega (arith, same_length m _ us (only_reads m _ us o), length-map notes.said.items said_of, ap length c.as_slice-noted.ensures.value, rows.ok.0, c.if-noted-term.false) in
     record {
       lawful = lawful-read m F c.args.features line notes f us o;
       deep = c.fill.ensures.deep;
@@ -64,15 +66,14 @@ returns g c =
     let m = g.O.WrittenOrder.texts c.args.order.now in
     let n = c.args.features in
     let room = c.args.term.now.room in
-    let line = c.args.line.now in
     let notes = c.args.notes.now in
     let us = vec_items c.fill.new.rows in
-    let o = c.fill.ensures.read in
-    let fits : length us ≤ room = omega (arith, same_length m _ us (only_reads m _ us o), c.first_wrong.ensures.count, c.if-notes-term.false) in
+    let o = subst (λ ss. OnlyReads m (map said_of ss) us) c.as_slice-noted.ensures.value c.fill.ensures.read in
+    let fits : length us ≤ room = omega (arith, same_length m _ us (only_reads m _ us o), length-map notes.said.items said_of, ap length c.as_slice-noted.ensures.value, c.if-noted-term.false) in
     record {
-      answer = λ F f. accepted m F n line notes f us o room fits;
-      fixed = λ F f. settled m F n line notes f us o room fits;
+      answer = λ F line f. accepted m F n line notes f us o room fits;
+      fixed = λ F line f. settled m F n line notes f us o room fits;
       kept = λ k. absurd (both_ways _ refl k);
-      few = λ k. few_read m c.requires.0 n line notes c.requires.1 us o;
+      few = λ k. few_read m c.requires.0 n c.requires.1 notes c.requires.2 us o;
       fields = (refl, λ k. refl);
     }

@@ -14,16 +14,16 @@ found g c =
     record { many = sym c.len.ensures.answer; words = words; same = same; right = right }
 
 pub finish-requires : goal.finish-requires
-finish-requires g c = (feature_names c.args.features.now, found g (goal.at.finish-requires g c).After-len)
+finish-requires g c = (feature_names c.args.features.now, c.args.line.now, found g (goal.at.finish-requires g c).After-len)
 
 pub returns-in-Ok : goal.returns-in-Ok
 returns-in-Ok g c =
     let F = feature_names c.args.features.now in
     let f = found g (goal.at.returns-in-Ok g c).After-len in
     record {
-      answer = c.finish.ensures.answer F f;
+      answer = c.finish.ensures.answer F c.args.line.now f;
       kept = c.finish.ensures.kept;
-      fixed = c.finish.ensures.fixed F f;
+      fixed = c.finish.ensures.fixed F c.args.line.now f;
       few = c.finish.ensures.few;
       fields = (c.finish.ensures.fields.0, λ h. c.finish.ensures.fields.1 h ∙ c.len.ensures.answer);
     }

@@ -3,21 +3,23 @@ use Rattle.std.proofs.lemmas.Result.{err_from_is_err_and}
 use Rattle.features.specs.Model.{feature_names}
 use Rattle.grammar.specs.Trees.{limits}
 use Rattle.grammar.proofs.Scanning.{runs_none}
-use Rattle.reading.proofs.Rooting.{behind, whole_line}
+use Rattle.reading.proofs.Rooting.{noted_nothing, behind, whole_line}
 use Rattle.reading.proofs.reader.heads.trees.root.Goals as goal
 
 pub term-requires : goal.term-requires
-term-requires c = (c.requires.0, (omega arith, (runs_none limits c.args.line.now, ((omega (arith, c.requires.1.0), omega (arith, c.requires.1.1)), omega arith))))
+term-requires c =
+    let none = noted_nothing c.args.notes.now c.requires in
+    (omega arith, (runs_none limits c.args.reader.now.line.now, ((omega (arith, none.0), omega (arith, none.1)), omega arith)))
 
 pub returns-in_err-end : goal.returns-in_err-end
 returns-in_err-end c =
     let p = err_from_is_err_and c.from_residual.result c.from_residual.ensures.1 in
     rw (p.1, p.2) c.in_err-end.ensures
 
-pub returns-then-end-line : goal.returns-then-end-line
-returns-then-end-line c =
-    behind (feature_names c.args.features.now) c.args.line.now c.args.notes.now c.term.new.notes c.in_ok-end.end c.in_ok-end.ensures c.if-end-line.true
+pub returns-then-end-reader : goal.returns-then-end-reader
+returns-then-end-reader c =
+    behind (feature_names c.args.reader.now.features.now) c.args.reader.now.line.now c.args.notes.now c.term.new.notes c.in_ok-end.end c.in_ok-end.ensures c.if-end-reader.true
 
 pub returns : goal.returns
 returns c =
-    whole_line (feature_names c.args.features.now) c.args.line.now c.args.notes.now c.term.new.notes c.in_ok-end.end c.in_ok-end.ensures c.if-end-line.false
+    whole_line (feature_names c.args.reader.now.features.now) c.args.reader.now.line.now c.args.notes.now c.term.new.notes c.in_ok-end.end c.in_ok-end.ensures c.if-end-reader.false
