@@ -1,0 +1,21 @@
+pub mod Follow
+pub mod Writes
+pub mod Kept
+pub mod Carry
+pub mod Ready
+pub mod Enough
+pub mod Run
+pub mod Tied
+pub mod Truth
+pub mod Moved
+pub mod Grows
+pub mod Grown
+pub mod Budget
+pub mod Extends
+pub mod Join
+pub mod Pushed
+pub mod KindSet
+pub mod Sounding
+pub mod Extending
+pub mod Opening
+mod Example

@@ -1,0 +1,5 @@
+pub mod Heap
+pub mod Good
+pub mod Joining
+pub mod Interpretation
+pub mod Law

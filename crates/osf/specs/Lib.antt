@@ -1,0 +1,5 @@
+pub mod Facts
+pub mod Calls
+pub mod Runs
+pub mod Law
+pub mod Memory

@@ -1,0 +1,7 @@
+pub mod Onward
+pub mod Lists
+mod Places
+mod Narrowing
+mod Meeting
+mod Tying
+pub mod Steps

@@ -1,0 +1,2 @@
+// Performing statements one by one, and what that does to a case.
+#![tactic(auto)]
