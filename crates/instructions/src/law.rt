@@ -7,4 +7,6 @@ use orders::order::Order;
 // an entry never clashes, and the turns that a rule may take are enough.
 pub fn codes_law<O: Order>(order: &O)
     ensures { CodesLaw (O.meaning order.now) }
-{}
+{
+    let _ = order;
+}

@@ -7,4 +7,6 @@ use orders::order::Order;
 // structure of things of the type T. The pairs that a join may take are enough, and so is the room for them.
 pub fn join_law<O: Order, T>(order: &O)
     ensures { JoinLaw T (O.meaning order.now) }
-{}
+{
+    let _ = order;
+}

@@ -11,4 +11,6 @@ use orders::order::Order;
 pub fn law_of_runs<O: Order, T>(order: &O)
     ensures law { LawOfRuns (O.meaning order.now) T }
     ensures memory { MemoryOfRuns (O.meaning order.now) }
-{}
+{
+    let _ = order;
+}
