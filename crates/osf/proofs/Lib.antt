@@ -11,4 +11,5 @@ pub mod Calls
 pub mod Leaving
 pub mod Running
 pub mod Remaining
+pub mod Going
 mod Example

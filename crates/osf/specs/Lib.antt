@@ -3,3 +3,4 @@ pub mod Calls
 pub mod Runs
 pub mod Law
 pub mod Memory
+pub mod Reached

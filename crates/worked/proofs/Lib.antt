@@ -1,0 +1,2 @@
+pub mod Saying
+pub mod Computed

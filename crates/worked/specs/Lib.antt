@@ -1,0 +1,3 @@
+pub mod Shipped
+pub mod Lines
+pub mod Table
