@@ -65,7 +65,10 @@ fn a_line_is_read_with_its_places_and_depths(rt: HostRuntime) -> Result<(), Fail
     assert_eq!(rt; term.place(3), Some(15));
     assert_eq!(rt; term.place(4), Some(20));
     assert_eq!(rt; term.place(5), Some(29));
+    assert_eq!(rt; term.said().len(), 5);
+    assert_eq!(rt; term.features(), 2);
     assert_eq!(rt; term.variables(), 3);
+    assert_eq!(rt; term.depths(), [0, 1, 2].as_slice());
     assert_eq!(rt; term.depth(1), Some(1));
     assert_eq!(rt; term.depth(2), Some(2));
     assert_eq!(rt; term.depth(3), None);

@@ -1,6 +1,8 @@
-// Worked examples over orders, lists of kinds, bands, pairs, features, terms and texts: all of them tests, to be read first.
+// Worked examples over orders, lists of kinds, bands, pairs, features, terms, codes and texts: all of them tests, to be read first.
 #![tactic(auto)]
 
+#[cfg(test)]
+mod codes;
 #[cfg(test)]
 mod declared;
 #[cfg(test)]

@@ -1,8 +1,8 @@
 -- Declaring a line: which refusal it has, or that it is accepted; and that it has one outcome.
-use Rattle.std.proofs.Common.{◌≡◌, ℕ, ◌+◌, ◌<◌, ◌≤◌, true, false, ◌⊎◌, List, [], ◌∷◌, ◌++◌, length, take, drop, Some, Ok, Err, Option, Result, sym, refl, ap, ◌∙◌, subst, inl, inr, arith}
+use Rattle.std.proofs.Common.{◌≡◌, ℕ, ◌+◌, ◌<◌, ◌≤◌, Bool, true, false, cond, ◌==◌, ◌||◌, nat_lt, ◌⊎◌, List, [], ◌∷◌, ◌++◌, length, take, drop, Some, Ok, Err, Option, Result, sym, refl, ap, ◌∙◌, subst, inl, inr, arith}
 use Rattle.std.specs.Option.{is_some}
 use Rattle.std.proofs.lemmas.List.{take-append-drop, length-take-le, take_all, append-nil}
-use Rattle.std.proofs.lemmas.Bool.{and_parts, and_from, both_ways, cases_lt}
+use Rattle.std.proofs.lemmas.Bool.{and_parts, and_from, both_ways, cases_lt, eqb-true, eqb-false, ltb-true, ltb-false}
 use Rattle.refusals.specs.declared.Refusal.{Refusal}
 use Rattle.refusals.specs.declared.Refusal.TheVariants.{Limit, Grammar, Word}
 use Rattle.refusals.specs.Places.{GoesOn, Breaks}
@@ -13,7 +13,7 @@ use Rattle.declarations.specs.Held.{name_bytes, Holds}
 use Rattle.declarations.specs.Names.{is_name, letter, name_byte, all_name}
 use Rattle.declarations.specs.Lines.{LongName, NameEnd}
 use Rattle.declarations.proofs.Words.{name-some}
-use Rattle.features.specs.Model.{number_of}
+use Rattle.features.specs.Model.{number_of, ReadsLine}
 use Rattle.features.proofs.Held.{known_number}
 use Rattle.features.specs.Lines.{Lawful, TooMuch, Refuses, Accepts, Declares}
 
@@ -109,6 +109,33 @@ module _ (features : List (List ℕ)) (line : List ℕ) (end : ℕ) (n : NameEnd
 
     pub name_is : name_bytes name ≡ line
     name_is = held.1 ∙ take_all end line whole
+
+-- whether a word of so many bytes is the whole line
+pub not_whole : (end n : ℕ) (e : Refusal) → ◌≡◌ {A = Result (Unit {0}) Refusal} (Err e) (cond (end == 0 || nat_lt end n) (Err (Grammar end)) (Ok tt)) → ((end ≡ 0) ⊎ ((end ≡ 0 → ⊥) × (end < n))) × (e ≡ Grammar end)
+not_whole end n e q = go (end == 0) refl (nat_lt end n) refl q where
+  not_ok : ◌≡◌ {A = Result (Unit {0}) Refusal} (Err e) (Ok tt) → ⊥
+  not_ok q = let z : ◌≡◌ {A = ℕ} 0 1 = cc in omega (arith, z)
+
+  go : (b : Bool) → (end == 0) ≡ b → (c : Bool) → nat_lt end n ≡ c → ◌≡◌ {A = Result (Unit {0}) Refusal} (Err e) (cond (b || c) (Err (Grammar end)) (Ok tt)) → ((end ≡ 0) ⊎ ((end ≡ 0 → ⊥) × (end < n))) × (e ≡ Grammar end)
+  go true h c k q = (inl (eqb-true end 0 h), cc)
+  go false h true k q = (inr (eqb-false end 0 h, ltb-true end n k), cc)
+  go false h false k q = absurd (not_ok q)
+
+pub is_whole : (end n : ℕ) {u : Unit {0}} → Ok u ≡ cond (end == 0 || nat_lt end n) (Err (Grammar end)) (Ok tt) → (0 < end) × (n ≤ end)
+is_whole end n {u} q = go (end == 0) refl (nat_lt end n) refl q where
+  not_err : ◌≡◌ {A = Result (Unit {0}) Refusal} (Ok u) (Err (Grammar end)) → ⊥
+  not_err q = let z : ◌≡◌ {A = ℕ} 0 1 = cc in omega (arith, z)
+
+  go : (b : Bool) → (end == 0) ≡ b → (c : Bool) → nat_lt end n ≡ c → Ok u ≡ cond (b || c) (Err (Grammar end)) (Ok tt) → (0 < end) × (n ≤ end)
+  go true h c k q = absurd (not_err q)
+  go false h true k q = absurd (not_err q)
+  go false h false k q = (omega (arith, eqb-false end 0 h), omega (arith, ltb-false end n k))
+
+-- the name of a line, unless it is known
+pub name_read : (features : List (List ℕ)) (line : List ℕ) (name : Name) (o : Option ℕ) (b : Bool) → is_some o ≡ b → length features < 16 → (is_some o ≡ true → Refuses features line (Word 0))
+    → (is_some o ≡ false → Accepts features line) → name_bytes name ≡ line → ReadsLine features line (cond b (Err (Word 0)) (Ok name))
+name_read features line name o true e few r a is = r e
+name_read features line name o false e few r a is = (a e, is, few)
 
 -- a line has one outcome
 module _ (features : List (List ℕ)) (line : List ℕ) where

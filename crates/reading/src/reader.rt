@@ -1,6 +1,7 @@
 // A reader over a lent line: its words, and what it notes of them.
 ghost use Rattle.std.specs.Prelude.{◌≡◌, ℕ, ◌+◌, ◌<◌, ◌≤◌, length};
 ghost use Rattle.features.specs.Model.{number_of};
+ghost use Rattle.grammar.specs.declared.statement.Statement.TheVariants.{Kind};
 ghost use Rattle.grammar.specs.Told.{nothing};
 ghost use Rattle.grammar.specs.Told.{meet as met, meet_unnamed, say as saying, mark as marked};
 ghost use Rattle.grammar.specs.Words.{capital};
@@ -196,6 +197,29 @@ impl<'a> Notes<'a> {
             };
             self.say(statement, link.place);
         }
+    }
+
+    // A kind text is said of a variable.
+    fn say_kind(&mut self, variable: usize, text: Token<'a>)
+        requires { statements self.old < 399 }
+        ensures told { noted self.new ≡ saying (Kind variable text.entry.text.now) text.entry.place (noted self.old) }
+        ensures counts { (variables self.new ≡ variables self.old) × (statements self.new ≡ statements self.old + 1) }
+    {
+        self.say(
+            Statement::Kind {
+                variable,
+                kind: text.text,
+            },
+            text.place,
+        );
+    }
+
+    // The name at this place is described: wrong where it was met before.
+    fn describe(&mut self, found: Named, place: usize)
+        ensures told { noted self.new ≡ marked found.known place (noted self.old) }
+        ensures counts { (variables self.new ≡ variables self.old) × (statements self.new ≡ statements self.old) }
+    {
+        self.mark(found.known, place);
     }
 
     // The word at this place is wrong if the test says so. The leftmost counts.

@@ -1,5 +1,7 @@
 -- Statements of notes with their kinds. A middle layer: no contract of a public call of this crate's users cites it.
-use Rattle.std.specs.Prelude.{◌≡◌, ℕ, List, length, Some, None, Option}
+use Rattle.std.specs.Prelude.{◌≡◌, ℕ, List, length, Some, None, Ok, Err, Option, Result}
+use Rattle.refusals.specs.declared.Refusal.{Refusal}
+use Rattle.refusals.specs.declared.Refusal.TheVariants.{Kind as WrongText}
 use Rattle.orders.specs.Texts.{Texts}
 use Rattle.orders.specs.Whole.{NoKind}
 use Rattle.grammar.specs.declared.statement.Statement.{Statement}
@@ -29,6 +31,11 @@ Readable {K} m ss = (us : List (Said K)) × OnlyReads m ss us
 abbrev pub FirstWrong : {K : Type 0} → Texts K → List (Said (List ℕ)) → Option ℕ → Type 0
 FirstWrong m ss None = Readable m ss
 FirstWrong m ss (Some p) = WrongKind m ss p
+
+-- all kinds can be read, or the refusal of the first kind text that no kind has
+abbrev pub ChecksKinds : {K : Type 0} → Texts K → List (Said (List ℕ)) → Result (Unit {0}) Refusal → Type 0
+ChecksKinds m ss (Ok _) = Readable m ss
+ChecksKinds m ss (Err e) = (p : ℕ) × WrongKind m ss p × (e ≡ WrongText p)
 
 -- the notes hold what a line says that has no reason up to 3 to be refused; so many features are declared
 pub record Found (features : List (List ℕ)) (count : ℕ) (line : List ℕ) (notes : Notes) : Type 0 where

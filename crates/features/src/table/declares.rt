@@ -1,6 +1,7 @@
 // Declaring a feature.
-ghost use Rattle.std.specs.Prelude.{◌≡◌, ℕ, true, List, is_err, Result};
+ghost use Rattle.std.specs.Prelude.{◌≡◌, ◌==◌, ◌||◌, ℕ, cond, true, List, length, is_err, is_some, nat_lt, Ok, Err, Result};
 ghost use Rattle.refusals.specs.declared.Refusal.{Refusal};
+ghost use Rattle.refusals.specs.declared.Refusal.TheVariants.{Grammar, Word};
 ghost use Rattle.features.specs.Model.{feature_names, ReadsLine};
 ghost use Rattle.features.specs.Lines.{Declares};
 
@@ -42,15 +43,32 @@ impl Features {
         let Some(name) = Name::new(&line[..end]) else {
             return Err(Refusal::Limit { place: 0 });
         };
-        if end == 0 || end < line.len() {
-            return Err(Refusal::Grammar { place: end });
+        if let Err(refusal) = whole(end, line) {
+            return Err(refusal);
         }
         if self.names.is_full() {
             return Err(Refusal::Limit { place: 0 });
         }
-        if self.find(line).is_some() {
-            return Err(Refusal::Word { place: 0 });
-        }
-        Ok(name)
+        unless_known(self.find(line), name)
+    }
+}
+
+// That a word of so many bytes is the whole line, and has a byte; or the refusal of the byte at which the line goes on otherwise.
+fn whole(end: usize, line: &[u8]) -> Result<(), Refusal>
+    ensures { result ≡ cond (end == 0 || nat_lt end (length line.now)) (Err (Grammar end)) (Ok tt) }
+{
+    if end == 0 || end < line.len() {
+        return Err(Refusal::Grammar { place: end });
+    }
+    Ok(())
+}
+
+// The name, or the refusal of one that is declared already.
+fn unless_known(found: Option<usize>, name: Name) -> Result<Name, Refusal>
+    ensures { result ≡ cond (is_some found) (Err (Word 0)) (Ok name) }
+{
+    match found {
+        Some(_) => Err(Refusal::Word { place: 0 }),
+        None => Ok(name),
     }
 }

@@ -1,5 +1,5 @@
 // The parts of a term: its front, its kind text, what follows an item, a feature with its arrow.
-ghost use Rattle.std.specs.Prelude.{◌≡◌, ℕ, suc, ◌+◌, ◌<◌, ◌≤◌, true, false, length, Some, slice_index};
+ghost use Rattle.std.specs.Prelude.{◌≡◌, ℕ, suc, ◌+◌, ◌<◌, ◌≤◌, true, false, length, Some, nat_le, slice_index};
 ghost use Rattle.grammar.specs.Scanner.{here, state, begin, comma, in_feature};
 ghost use Rattle.declarations.specs.Names.{name_byte};
 ghost use Rattle.grammar.specs.Words.{capital};
@@ -10,7 +10,6 @@ ghost use Rattle.reading.specs.Reading.{Ended, AtKind, HeadRead, BodyRead, Closi
 use crate::notes::Notes;
 use crate::reader::{Body, Class, Closing, Head, Link, Mark, Reader, Token, is_capital};
 use declarations::line::is_letter;
-use grammar::statement::Statement;
 use orders::texts::is_text_byte;
 use refusals::Refusal;
 
@@ -18,6 +17,13 @@ pub mod trees;
 
 // How many parentheses may be open.
 const OPEN: usize = 16;
+
+// Whether no more parentheses may be opened where so many are open.
+fn is_deepest(depth: usize) -> bool
+    ensures { result ≡ nat_le 16 depth }
+{
+    depth >= OPEN
+}
 
 // Notes are lent beside the reader: as a part of it, each step would have to promise that the line stays. Places are plain
 // numbers within the line: a type for them would be taken apart at each step for the place that a token or a refusal keeps.
@@ -34,7 +40,7 @@ impl<'a, 'f> Reader<'a, 'f> {
         notes.say_link(from, found.variable);
         match self.mark(end) {
             Mark::Colon => {
-                notes.mark(found.known, at);
+                notes.describe(found, at);
                 Ok(Head::Described {
                     variable: found.variable,
                     at: end + 1,
@@ -81,16 +87,10 @@ impl<'a, 'f> Reader<'a, 'f> {
             return Err(Refusal::Grammar { place: at });
         }
         let end = at + text.text.len();
-        notes.say(
-            Statement::Kind {
-                variable,
-                kind: text.text,
-            },
-            at,
-        );
+        notes.say_kind(variable, text);
         match self.mark(end) {
             Mark::Open => {
-                if depth >= OPEN {
+                if is_deepest(depth) {
                     return Err(Refusal::Limit { place: 0 });
                 }
                 Ok(Body::Opens { at: end })

@@ -1,5 +1,5 @@
 // The statements of a line, noted with kind texts, as the statements of a term with kinds.
-ghost use Rattle.std.specs.Prelude.{◌≡◌, ℕ, ◌+◌, ◌<◌, ◌≤◌, true, List, [], ◌∷◌, ◌++◌, map, length, is_ok, is_err, vec_len, vec_capacity, Result as Answered, slice_index};
+ghost use Rattle.std.specs.Prelude.{◌≡◌, ℕ, ◌+◌, ◌<◌, ◌≤◌, true, List, [], ◌∷◌, ◌++◌, map, length, is_ok, is_err, nat_lt, vec_len, vec_capacity, Result as Answered, slice_index};
 ghost use Rattle.refusals.specs.declared.Refusal.{Refusal as Refused};
 ghost use Rattle.grammar.specs.declared.statement.Said.{Said as Row};
 ghost use Rattle.grammar.specs.Lines.{Answers};
@@ -8,10 +8,10 @@ ghost use Rattle.grammar.specs.Only.{OnlyReads};
 ghost use Rattle.features.specs.Model.{feature_names};
 ghost use Rattle.reading.specs.Notes.{statement_of};
 ghost use Rattle.reading.specs.Notes.{said_of as in_line};
-ghost use Rattle.terms.specs.Kinds.{StatementOf, FirstWrong, Readable, Found};
+ghost use Rattle.terms.specs.Kinds.{StatementOf, FirstWrong, ChecksKinds, Readable, Found};
 ghost use Rattle.terms.specs.Terms.{said_of, room_of, features_of, depths_in};
 
-use super::Term;
+use super::{Term, put_root};
 use features::table::Features;
 use grammar::statement::{Said, Statement};
 use orders::texts::WrittenOrder;
@@ -42,6 +42,7 @@ fn with_kind<O: WrittenOrder>(order: &O, statement: Statement<&[u8]>) -> Option<
 }
 
 // The place of the first kind text that no kind has.
+#[tactic(auto, using(crate::proofs::WithKinds::wrong_at, crate::proofs::WithKinds::no_kind))]
 fn first_wrong<O: WrittenOrder>(order: &O, noted: &[Said<&[u8]>]) -> Option<usize>
     ensures { FirstWrong (O.texts order.now) (map in_line noted.now) result }
 {
@@ -54,11 +55,36 @@ fn first_wrong<O: WrittenOrder>(order: &O, noted: &[Said<&[u8]>]) -> Option<usiz
     None
 }
 
+// That all kinds can be read, or the refusal of the first kind text that no kind has.
+fn check_kinds<O: WrittenOrder>(order: &O, noted: &[Said<&[u8]>]) -> Result<(), Refusal>
+    ensures { ChecksKinds (O.texts order.now) (map in_line noted.now) result }
+{
+    match first_wrong(order, noted) {
+        Some(place) => Err(Refusal::Kind { place }),
+        None => Ok(()),
+    }
+}
+
+// Whether there is room for fewer statements than these.
+fn is_short(room: usize, noted: &[Said<&[u8]>]) -> bool
+    ensures { result ≡ nat_lt room (length noted.now) }
+{
+    noted.len() > room
+}
+
 // The depth of a variable, 0 past the last one, as the clauses of depths have it.
 fn depth_of(depths: &[usize], variable: usize) -> usize
     ensures { result ≡ slice_index depths.now variable }
 {
     depths.get(variable).copied().unwrap_or(0)
+}
+
+// One deeper. No depth comes near the bound, since a term has no more depths than memory can have.
+fn one_deeper(depth: usize) -> usize
+    requires { depth < 9223372036854775808 }
+    ensures { result ≡ depth + 1 }
+{
+    depth + 1
 }
 
 // The facts of a `Term` do not hold while it is filled: so its rows and depths are lent below, and not the term.
@@ -80,7 +106,7 @@ fn push<K: Copy>(rows: &mut Vec<Said<K>>, depths: &mut Vec<usize>, said: Said<K>
         } => {
             if value == depths.len() {
                 let depth = depth_of(depths, variable);
-                depths.push_reserved(depth + 1);
+                depths.push_reserved(one_deeper(depth));
             }
         }
     }
@@ -102,7 +128,7 @@ fn fill<O: WrittenOrder>(
 {
     rows.clear();
     depths.clear();
-    depths.push_reserved(0);
+    put_root(depths);
     for said in noted {
         let statement = with_kind(order, said.statement).unwrap();
         let place = said.place;
@@ -125,10 +151,10 @@ fn finish<K: Copy, O: WrittenOrder<Kind = K>>(
     ensures fields { (room_of term.new ≡ room_of term.old) × (is_ok result ≡ true → features_of term.new ≡ features) }
 {
     let noted = notes.said.as_slice();
-    if let Some(place) = first_wrong(order, noted) {
-        return Err(Refusal::Kind { place });
+    if let Err(refusal) = check_kinds(order, noted) {
+        return Err(refusal);
     }
-    if noted.len() > term.room {
+    if is_short(term.room, noted) {
         return Err(Refusal::Memory);
     }
     fill(order, noted, &mut term.rows, &mut term.depths);

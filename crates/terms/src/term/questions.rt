@@ -1,9 +1,9 @@
 // A new term, and what can be asked of a term.
-ghost use Rattle.std.specs.Prelude.{◌≡◌, [], map, length, IfOk};
-ghost use Rattle.grammar.specs.Lawful.{statements as statements_of};
+ghost use Rattle.std.specs.Prelude.{◌≡◌, ◌≤◌, true, [], map, length, IfOk};
+ghost use Rattle.grammar.specs.Lawful.{lawful as lawful_statements, statements as statements_of};
 ghost use Rattle.terms.specs.Terms.{said_of, room_of, features_of, depths_in, From0, From1};
 
-use super::Term;
+use super::{Term, put_root};
 use grammar::statement::{Said, Statement};
 use std::alloc::{AllocError, Global};
 
@@ -17,7 +17,7 @@ impl<K: Copy> Term<K> {
         };
         let rows = Vec::with_capacity(heap, room)?;
         let mut depths = Vec::with_capacity(heap, variables)?;
-        depths.push_reserved(0);
+        put_root(&mut depths);
         Ok(Term {
             rows,
             depths,
@@ -40,11 +40,36 @@ impl<K: Copy> Term<K> {
         self.rows.len()
     }
 
+    // How many features are declared.
+    pub fn features(&self) -> usize
+        ensures value { result ≡ features_of self.now }
+        ensures lawful { lawful_statements result (statements_of (said_of self.now)) ≡ true }
+    {
+        self.features
+    }
+
     // How many variables there are.
     pub fn variables(&self) -> usize
-        ensures { result ≡ length (depths_in self.now) }
+        ensures value { result ≡ length (depths_in self.now) }
+        ensures few { result ≤ 200 }
     {
         self.depths.len()
+    }
+
+    // The statements, each with the place of its word.
+    pub fn said(&self) -> &[Said<K>]
+        ensures value { result.now ≡ said_of self.now }
+        ensures few { length result.now ≤ 399 }
+    {
+        self.rows.as_slice()
+    }
+
+    // The depths of the variables.
+    pub fn depths(&self) -> &[usize]
+        ensures value { result.now ≡ depths_in self.now }
+        ensures few { length result.now ≤ 200 }
+    {
+        self.depths.as_slice()
     }
 
     // The statement with this number, from 1.

@@ -1,5 +1,5 @@
 // Terms and their lists, which call each other.
-ghost use Rattle.std.specs.Prelude.{◌≡◌, ℕ, suc, ◌+◌, ◌<◌, ◌≤◌, List, length, Some};
+ghost use Rattle.std.specs.Prelude.{◌≡◌, ℕ, suc, ◌+◌, ◌<◌, ◌≤◌, true, false, List, length, set, Some, nat_lt, slice_index_or};
 ghost use Rattle.features.specs.Model.{feature_names};
 ghost use Rattle.grammar.specs.Scanner.{here, state, begin, comma};
 ghost use Rattle.grammar.specs.Told.{nothing};
@@ -20,25 +20,40 @@ struct Looked {
     seen: [bool; MOST],
 }
 
+impl Looked {
+    // A feature of this number, wrong where it is marked already, and marked with the others.
+    fn known(feature: usize, seen: [bool; MOST]) -> Looked
+        requires { feature < length seen }
+        ensures { result ≡ record { feature = feature; wrong = slice_index_or seen feature false; seen = set seen feature true } }
+    {
+        let mut after = seen;
+        after[feature] = true;
+        Looked {
+            feature,
+            wrong: seen[feature],
+            seen: after,
+        }
+    }
+
+    // A word that is no feature.
+    fn unknown(count: usize, seen: [bool; MOST]) -> Looked
+        ensures { result ≡ record { feature = count; wrong = true; seen = seen } }
+    {
+        Looked {
+            feature: count,
+            wrong: true,
+            seen,
+        }
+    }
+}
+
 // The number of a feature, whether it is unknown or stands in the list already, and the marks with it.
 fn look_up(features: &Features, word: &[u8], seen: [bool; MOST]) -> Looked
     ensures { (words : List (List ℕ)) → Seen (feature_names features.now) words seen → LooksUp (feature_names features.now) words word.now result }
 {
     match features.find(word) {
-        Some(feature) => {
-            let mut after = seen;
-            after[feature] = true;
-            Looked {
-                feature,
-                wrong: seen[feature],
-                seen: after,
-            }
-        }
-        None => Looked {
-            feature: features.len(),
-            wrong: true,
-            seen,
-        },
+        Some(feature) => Looked::known(feature, seen),
+        None => Looked::unknown(features.len(), seen),
     }
 }
 
@@ -113,11 +128,18 @@ fn root<'a>(reader: &Reader<'a, '_>, notes: &mut Notes<'a>) -> Result<(), Refusa
     Ok(())
 }
 
+// Whether a line has too many bytes.
+fn is_long(line: &[u8]) -> bool
+    ensures { result ≡ nat_lt 1000 (length line.now) }
+{
+    line.len() > LONGEST_LINE
+}
+
 // What a line says, with its kinds by their texts, or a refusal for reason 1, 2 or 3.
 pub fn note<'a>(features: &Features, line: &'a [u8]) -> Result<Notes<'a>, Refusal>
     ensures { NotesOf (feature_names features.now) line.now result }
 {
-    if line.len() > LONGEST_LINE {
+    if is_long(line) {
         return Err(Refusal::Limit { place: 0 });
     }
     let reader = Reader { line, features };

@@ -1,5 +1,5 @@
-use Rattle.std.proofs.Common.{◌≡◌, ◌<◌, length, sym, refl, ◌∙◌, arith}
-use Rattle.std.proofs.lemmas.Bool.{eqb-true, eqb-false}
+use Rattle.std.proofs.Common.{◌≡◌, ◌<◌, length, ap, sym, refl, ◌∙◌, arith}
+use Rattle.std.proofs.lemmas.Bool.{eqb-true, eqb-false, leb-true, leb-false}
 use Rattle.grammar.specs.declared.statement.Statement.TheVariants.{Kind}
 use Rattle.grammar.specs.Told.{say}
 use Rattle.reading.specs.Notes.{noted}
@@ -8,8 +8,10 @@ use Rattle.reading.proofs.reader.Reader.body.Goals as goal
 use Rattle.reading.proofs.reader.Reader.body.Goals.{After-mark}
 
 -- what is said of the kind text
-told : (c : After-mark) → noted c.say.new.self ≡ say (Kind c.args.variable c.word-text.result.text.now) c.args.at (noted c.args.notes.now)
-told c = c.say.ensures.told
+told : (c : After-mark) → noted c.say_kind.new.self ≡ say (Kind c.args.variable c.word-text.result.text.now) c.args.at (noted c.args.notes.now)
+told c =
+    let (g, place) = c.word-text.ensures in
+    c.say_kind.ensures.told ∙ ap (λ p. say (Kind c.args.variable c.word-text.result.text.now) p (noted c.args.notes.now)) place
 
 some : (c : After-mark) → 0 < length c.word-text.result.text.now
 some c = omega (arith, eqb-false _ 0 (sym c.if-is_empty.ensures))
@@ -22,27 +24,27 @@ returns-then-is_empty c =
       counts = (refl, omega arith);
     }
 
-pub returns-then-depth-ge-OPEN : goal.returns-then-depth-ge-OPEN
-returns-then-depth-ge-OPEN c =
-    let d = (goal.at.returns-then-depth-ge-OPEN c).After-mark in
+pub returns-then-is_deepest : goal.returns-then-is_deepest
+returns-then-is_deepest c =
+    let d = (goal.at.returns-then-is_deepest c).After-mark in
     let (g, place) = c.word-text.ensures in
     record {
       answer =
-          λ k. too_deep c.args.self.now.line.now c.args.at c.args.depth _ k g (some d) (sym c.mark.ensures ∙ c.in-Open.is) c.if-depth-ge-OPEN.true;
-      counts = (c.say.ensures.counts.0, omega arith);
+          λ k. too_deep c.args.self.now.line.now c.args.at c.args.depth _ k g (some d) (sym c.mark.ensures ∙ c.in-Open.is) (leb-true _ _ (sym c.if-is_deepest.ensures));
+      counts = (c.say_kind.ensures.counts.0, omega arith);
     }
 
-pub returns-else-depth-ge-OPEN : goal.returns-else-depth-ge-OPEN
-returns-else-depth-ge-OPEN c =
-    let d = (goal.at.returns-else-depth-ge-OPEN c).After-mark in
+pub returns-else-is_deepest : goal.returns-else-is_deepest
+returns-else-is_deepest c =
+    let d = (goal.at.returns-else-is_deepest c).After-mark in
     let line = c.args.self.now.line.now in
     let (g, place) = c.word-text.ensures in
     record {
       answer =
           λ k.
-          let (bytes, at, few) = open_list line c.args.at c.args.depth _ k g (some d) (sym c.mark.ensures ∙ c.in-Open.is) c.if-depth-ge-OPEN.false in
+          let (bytes, at, few) = open_list line c.args.at c.args.depth _ k g (some d) (sym c.mark.ensures ∙ c.in-Open.is) (leb-false _ _ (sym c.if-is_deepest.ensures)) in
           (_, text-lawful line c.args.at c.args.depth _ k g (some d), g.spans, bytes, at, few, told d);
-      counts = (c.say.ensures.counts.0, omega arith);
+      counts = (c.say_kind.ensures.counts.0, omega arith);
     }
 
 pub returns-in_default : goal.returns-in_default
@@ -59,5 +61,5 @@ returns-in_default c =
             no_list line c.args.at c.args.depth _ k g (some d) (λ e. c.in_default.not-Open (c.mark.ensures ∙ e)),
             told d,
           );
-      counts = (c.say.ensures.counts.0, omega arith);
+      counts = (c.say_kind.ensures.counts.0, omega arith);
     }

@@ -37,7 +37,7 @@ returns-in-Colon c =
             spans,
             kind,
             number,
-            name_marked c.args.from _ _ w t0 _ _ met said number known i _ (c.mark-in-Colon.ensures.told),
+            name_marked c.args.from _ _ w t0 _ _ met said number known i _ c.describe.ensures.told,
           );
       counts = (omega arith, omega arith);
     }

@@ -11,7 +11,7 @@ use Rattle.terms.proofs.term.kinds.fill.Goals as goal
 pub loop-said-init : goal.loop-said-init
 loop-said-init g c = (
   read_none (g.O.WrittenOrder.texts c.args.order.now) _ c.clear.ensures.items,
-  one_depth 0 _ c.clear.ensures.items _ (c.push_reserved.ensures.items ∙ ap (λ ds. ds ++ 0 ∷ []) c.clear-2.ensures.items),
+  one_depth 0 _ c.clear.ensures.items _ (c.put_root.ensures.items ∙ ap (λ ds. ds ++ 0 ∷ []) c.clear-2.ensures.items),
   c.clear.ensures.len,
   refl,
   refl,
@@ -32,7 +32,7 @@ push-requires g c =
     let many : length (statements (vec_items r)) ≡ length (vec_items r) = length-map (vec_items r) (λ s. s.statement) in
     let long : length (vec_items d) ≡ length (depths (statements (vec_items r))) = ap length deep in
     let rows-cap = c.clear.ensures.capacity in
-    let depths-cap : vec_capacity d ≡ vec_capacity c.args.depths.now = caps ∙ c.push_reserved.ensures.capacity ∙ c.clear-2.ensures.capacity in
+    let depths-cap : vec_capacity d ≡ vec_capacity c.args.depths.now = caps ∙ c.put_root.ensures.capacity ∙ c.clear-2.ensures.capacity in
     record {
       room = (omega (arith, c.requires.room.0), omega (arith, c.requires.room.1, d.ok.0, r.ok.0));
       deep = deep;

@@ -1,12 +1,12 @@
-use Rattle.std.proofs.Common.{◌≡◌, length, get_or, vec_items, vec_capacity, ap, ◌∙◌, arith}
+use Rattle.std.proofs.Common.{◌≡◌, [], ◌∷◌, ◌++◌, length, get_or, vec_items, vec_capacity, ap, ◌∙◌, arith}
 use Rattle.std.proofs.lemmas.List.{length-map}
 use Rattle.grammar.specs.Lawful.{depths, statements}
 use Rattle.terms.proofs.Filling.{depth_few, kept_kind, kept_feature, next_feature}
 use Rattle.terms.proofs.term.kinds.push.Goals as goal
 use Rattle.terms.proofs.term.kinds.push.Goals.{in-Kind, in-Feature+then-value-len, in-Feature+else-value-len}
 
-pub overflow_add-depth : goal.overflow_add-depth
-overflow_add-depth g c =
+pub one_deeper-requires : goal.one_deeper-requires
+one_deeper-requires g c =
     let r = c.args.rows.now in
     let x = c.in-Feature.variable in
     let e : c.depth_of-depth.result ≡ get_or (depths (statements (vec_items r))) x 0 =
@@ -30,7 +30,7 @@ returns g c =
           let here : w.in-Feature.value ≡ length (vec_items d) = omega (arith, w.if-value-len.true, w.len.ensures, d.ok.0) in
           let depth = w.depth_of-depth.ensures ∙ ap (λ ds. get_or ds w.in-Feature.variable 0) w.deref.ensures.value in
           next_feature (vec_items r) _ c.args.said _ _ _ w.depth_of-depth.result (vec_items d) _ w.in-Feature.is pushed.items was here depth
-          (ap (λ v. vec_items v) w.depths-is ∙ w.push_reserved.ensures.items)
+          (ap (λ v. vec_items v) w.depths-is ∙ w.push_reserved.ensures.items ∙ ap (λ n. vec_items d ++ n ∷ []) w.one_deeper.ensures)
       | in-Feature+else-value-len w ↦
           ap (λ v. vec_items v) w.depths-is
           ∙ kept_feature (vec_items r) _ c.args.said _ _ _ (vec_items d) w.in-Feature.is pushed.items was

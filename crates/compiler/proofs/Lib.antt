@@ -1,0 +1,10 @@
+pub mod Nothing
+pub mod Onward
+pub mod Going
+pub mod Lengths
+pub mod Entering
+pub mod Closes
+pub mod Counting
+pub mod Depths
+pub mod RuleLengths
+pub mod Matching

@@ -1,0 +1,5 @@
+pub mod Passing
+pub mod Compiled
+pub mod Views
+pub mod Entries
+pub mod Rules
