@@ -1,5 +1,5 @@
 -- The calls by their cases: refused with all as it was, or let through.
-use Rattle.std.proofs.Common.{◌≡◌, ℕ, ◌+◌, ◌-◌, ◌<◌, ◌≤◌, Bool, true, false, cond, not, ◌||◌, List, [], length, Err, nat_lt, nat_le, refl, sym, arith, ltb-false, leb-false}
+use Rattle.std.proofs.Common.{◌≡◌, ℕ, ◌+◌, ◌-◌, ◌<◌, ◌≤◌, Bool, true, false, cond, not, ◌||◌, List, [], length, Ok, Err, Result, nat_lt, nat_le, refl, sym, arith, ltb-false, leb-false}
 use Rattle.std.proofs.lemmas.Bool.{both_ways}
 use Rattle.refusals.specs.declared.Refusal.{Refusal}
 use Rattle.refusals.specs.declared.Refusal.TheVariants.{Memory, Cell, Feature, Full}
@@ -12,6 +12,9 @@ use Rattle.performing.specs.Following.{AllFit, met_by}
 use Rattle.instructions.specs.Law.{most_turns, enter, match_at}
 use Rattle.osf.specs.Calls.{Lent, Left, LetThrough, too_short, out_of_range, features_below, variables_of, refused, accepted, accepted_if, joined_if, enters, matches, joins}
 use Rattle.osf.proofs.Fitting.{all_fit, all_met, lawful_over}
+
+pub ok_err : {A E P : Type 0} {x : A} {e : E} → ◌≡◌ {A = Result A E} (Ok x) (Err e) → P
+ok_err q = cc
 
 by_test : {X : Type 0} (P : X → Type 0) (b : Bool) (x y : X) → (b ≡ true → P x) → (b ≡ false → P y) → P (cond b x y)
 by_test P true x y p q = p refl

@@ -18,6 +18,7 @@ use Rattle.osf.specs.Facts.{Fact, Holds, Interpretation, facts_of}
 use Rattle.osf.specs.Calls.{accepted_if}
 use Rattle.osf.specs.Runs.{Case, with_rule}
 use Rattle.osf.specs.Law.{ClashesExactly, thing_of}
+use Rattle.osf.proofs.Calls.{ok_err}
 use Rattle.osf.proofs.Standing.{Stands, TellsAll}
 use Rattle.osf.proofs.Told.{told, stands_after}
 use Rattle.osf.proofs.Telling.{all_left, all_right, before, sound_at_start}
@@ -72,13 +73,10 @@ module _ {K : Type 0} (m : Meaning K) where
       pub clashes : (r : Result (State K) ℕ) (places : List ℕ) → AllPerformed m T 0 ts (at_cell c i) r → ClashesExactly m T standing (accepted_if r c.heap places).answer
       clashes (Ok w) places p =
           record {
-            none = λ s q v. accepted_not s q;
-            before = λ s q. absurd (accepted_not s q);
+            none = λ s q v. ok_err q;
+            before = λ s q. ok_err q;
             only = λ s none v. absurd (none (fewer ℕ s (length ts + s) (omega arith) (has_some (length ts + s) w (subst (λ xs. Performed m T xs (at_cell c i) w) (sym (take_all (length ts + s) ts (omega arith))) p))));
           }
-        where
-          accepted_not : (s : ℕ) → ◌≡◌ {A = Result ℕ Refusal} (Ok w.heap.used) (Err (Clash s)) → ⊥
-          accepted_not s q = let n : ◌≡◌ {A = ℕ} 0 1 = cc in omega (arith, n)
       clashes (Err x) places (n, e, b, w, p, never) =
           record {
             none = λ s q v. has_none (suc n) never (subst (λ y. Interpretation T m (standing y)) (sym (same s q) ∙ is) v);

@@ -1,5 +1,5 @@
 -- What calls leave of a case's memory.
-use Rattle.std.proofs.Common.{◌≡◌, ℕ, ◌+◌, ◌<◌, List, ◌++◌, length, drop, Some, None, Ok, Err, Option, Result, refl, ap, ◌∙◌, arith}
+use Rattle.std.proofs.Common.{◌≡◌, ℕ, ◌+◌, ◌<◌, List, ◌++◌, length, drop, Some, None, Ok, Err, Option, Result, refl, sym, ap, ◌∙◌, arith}
 use Rattle.refusals.specs.declared.Refusal.{Refusal}
 use Rattle.orders.specs.Meaning.{Meaning}
 use Rattle.grammar.specs.declared.statement.Statement.{Statement}
@@ -17,7 +17,7 @@ use Rattle.instructions.proofs.Obeying.{codes_law}
 use Rattle.osf.specs.Calls.{Left, LetThrough, variables_of, accepted, accepted_if, joined_if}
 use Rattle.osf.specs.Runs.{Case, run}
 use Rattle.osf.specs.Memory.{Bounded, SameSize, Writes, Keeps, MemoryOfRuns}
-use Rattle.osf.proofs.Calls.{enters_by, matches_by, joins_by}
+use Rattle.osf.proofs.Calls.{enters_by, matches_by, joins_by, ok_err}
 use Rattle.osf.proofs.Fitting.{all_met}
 use Rattle.osf.proofs.Beginning.{at_cell}
 use Rattle.osf.proofs.Leaving.{Lawful, entry_performed, rule_performed}
@@ -45,9 +45,7 @@ module _ {K : Type 0} (m : Meaning K) (c : Case K) (k : Lawful m ℕ c) where
   Leaves ss places l = SameSize m c.heap l.heap × Writes m ss places l
 
   refused_so : (ss : List (Statement K)) (places : List ℕ) (e : Refusal) → Leaves ss places (record { heap = c.heap; places = places; answer = Err e })
-  refused_so ss places e = (same, λ n q. absurd (refused_not n q)) where
-    refused_not : (n : ℕ) → ◌≡◌ {A = Result ℕ Refusal} (Err e) (Ok n) → ⊥
-    refused_not n q = let w : ◌≡◌ {A = ℕ} 0 1 = cc in omega (arith, w)
+  refused_so ss places e = (same, λ n q. ok_err (sym q))
 
   writes : (ss : List (Statement K)) (places : List ℕ) (w : State K) → length w.places ≡ met_by 1 ss → Writes m ss places (accepted w places)
   writes ss places w e n q =

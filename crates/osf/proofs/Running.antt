@@ -1,5 +1,5 @@
 -- The law of a run: it holds of a case as it is opened, and after each call.
-use Rattle.std.proofs.Common.{◌≡◌, ℕ, false, ◌<◌, List, [], ◌∷◌, ◌++◌, Some, None, Ok, Err, Option, Result, nat_le, refl, sym, ap, ◌∙◌, subst, arith}
+use Rattle.std.proofs.Common.{◌≡◌, ℕ, false, ◌<◌, List, [], ◌∷◌, ◌++◌, Some, None, Err, Option, Result, nat_le, refl, sym, ap, ◌∙◌, subst, arith}
 use Rattle.std.proofs.lemmas.Bool.{lt-ltb, lt-leb}
 use Rattle.std.specs.List.{AllByRecursion}
 use Rattle.refusals.specs.declared.Refusal.{Refusal}
@@ -13,11 +13,11 @@ use Rattle.joining.proofs.Opening.{opened_good}
 use Rattle.joining.proofs.Join.{join_law}
 use Rattle.joining.proofs.Sounding.{sound_end, sound_kind, sound_leads}
 use Rattle.osf.specs.Facts.{Interpretation}
-use Rattle.instructions.specs.Law.{most_turns, enter, match_at}
+use Rattle.instructions.specs.Law.{most_turns, match_at}
 use Rattle.osf.specs.Calls.{Lent, LetThrough, joined_if, enters, matches, joins}
 use Rattle.osf.specs.Runs.{Case, Made, Call, enter as entered, match_rule, join as joined_call, ask_kind, ask_feature, LawfulCall, OfTerm, no_calls, after_call, run, with_rule}
 use Rattle.osf.specs.Law.{IsModel, MostGeneral, ClashesExactly, JoinClashes, Law, LawOfRuns}
-use Rattle.osf.proofs.Calls.{enters_by, matches_by, joins_by}
+use Rattle.osf.proofs.Calls.{enters_by, matches_by, joins_by, ok_err}
 use Rattle.osf.proofs.Clashing.{clashes, interprets}
 use Rattle.osf.proofs.Pairs.{one_fact, paired, stands_paired, never_paired}
 use Rattle.osf.proofs.Leaving.{Lawful, entry_leaves, rule_leaves, rule_performed, join_leaves}
@@ -92,21 +92,16 @@ module _ {K : Type 0} (m : Meaning K) (T : Type 0) where
         go : i < c.heap.used → j < c.heap.used → (o : Option (Heap K)) → Outcome T m i j c.heap o → JoinClashes m T (c.history.facts ++ one_fact c i j ∷ []) (joined_if o c.heap).answer
         go a b (Some g) h =
             record {
-              none = λ s q. absurd (accepted_not s q);
+              none = λ s q. ok_err q;
               only = λ none. absurd (none (interprets m (paired c i j g) (stands_paired m T c k.stands i j a b g h)));
             }
-          where
-            accepted_not : (s : ℕ) → ◌≡◌ {A = Result ℕ Refusal} (Ok g.used) (Err (Clash s)) → ⊥
-            accepted_not s q = let n : ◌≡◌ {A = ℕ} 0 1 = cc in omega (arith, n)
         go a b None h = record { none = λ s q. (same s q, never_paired m T c k.stands i j a b k.tells h); only = λ none. refl } where
           same : (s : ℕ) → ◌≡◌ {A = Result ℕ Refusal} (Err (Clash 0)) (Err (Clash s)) → s ≡ 0
           same s q = cc
 
     entering : (l : Lent) (ss : List (Statement K)) (places : List ℕ) (s : ℕ) → OfTerm ss → (enters m l ss places c.heap).answer ≡ Err (Clash s) → ⊥
     entering l ss places s (n, term) =
-        enters_by m l c.heap (λ left. left.answer ≡ Err (Clash s) → ⊥) n ss term places (λ e q is. q (subst LetThrough (sym is) tt)) (λ law fit room long is. accepted_not is) where
-          accepted_not : ◌≡◌ {A = Result ℕ Refusal} (Ok (enter m ss c.heap).heap.used) (Err (Clash s)) → ⊥
-          accepted_not q = let n : ◌≡◌ {A = ℕ} 0 1 = cc in omega (arith, n)
+        enters_by m l c.heap (λ left. left.answer ≡ Err (Clash s) → ⊥) n ss term places (λ e q is. q (subst LetThrough (sym is) tt)) (λ law fit room long is. ok_err is)
 
     pub law : Law m T c
     law = record { model = is_model; most_general = most_general; matching = matching; joining = joining; entering = entering }

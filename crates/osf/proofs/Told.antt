@@ -10,7 +10,8 @@ use Rattle.joining.specs.Law.{Extends}
 use Rattle.performing.specs.Performing.{State, end_of}
 use Rattle.performing.specs.Structures.{structure_of, Says}
 use Rattle.performing.specs.Following.{InOrder, Follows}
-use Rattle.performing.proofs.Onward.{extends_through, Within}
+use Rattle.joining.proofs.Extending.{extends_on}
+use Rattle.performing.proofs.Onward.{Within}
 use Rattle.performing.proofs.Lists.{says_same}
 use Rattle.osf.specs.Facts.{Fact, Holds, facts_of}
 use Rattle.osf.specs.Runs.{Case, first_with, with_term}
@@ -71,7 +72,7 @@ module _ {K : Type 0} (m : Meaning K) where
         ])
 
     pub whole : Extends m c.heap w.heap
-    whole = extends_through m c.heap s.heap w.heap k.good b.in_order.good b.used b.features b.extends f.extends
+    whole = extends_on m c.heap s.heap w.heap k.good b.in_order.good b.used b.features b.extends f.extends
 
     pub grown : c.heap.used ≤ w.heap.used
     grown = omega (arith, b.used, f.used)

@@ -10,7 +10,8 @@ use Rattle.joining.specs.Interpretation.{Structure}
 use Rattle.performing.specs.Performing.{State, end_of, perform, perform_from}
 use Rattle.performing.specs.Structures.{structure_of, Says}
 use Rattle.performing.specs.Following.{Fits, AllFit, met_after, met_by, InOrder, Follows, NeverTrue, Performed, Step, StepLaw}
-use Rattle.performing.proofs.Onward.{extends_through, still_says, Within}
+use Rattle.joining.proofs.Extending.{extends_on}
+use Rattle.performing.proofs.Onward.{still_says, Within}
 
 -- what is performed of a list where n statements came before: all of it, or the first k, after which the next is true nowhere
 abbrev pub AllPerformed : {K : Type 0} → Meaning K → (T : Type 0) → ℕ → List (Statement K) → State K → Result (State K) ℕ → Type 0
@@ -77,7 +78,7 @@ module _ {K : Type 0} (m : Meaning K) where
         room = omega (arith, a.room, b.room);
         places = λ x l. b.places x (omega (arith, a.met, l)) ∙ a.places x l;
         pushed = pushed_by;
-        extends = extends_through m s.heap u.heap w.heap o.good a.in_order.good a.used a.features a.extends b.extends;
+        extends = extends_on m s.heap u.heap w.heap o.good a.in_order.good a.used a.features a.extends b.extends;
       }
     where
       early : (j : ℕ) → s.heap.used ≤ j → j < u.heap.used → (x : ℕ) × (length s.places ≤ x) × (x < length w.places) × (slice_index w.places x ≡ j)

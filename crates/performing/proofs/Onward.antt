@@ -21,20 +21,6 @@ module _ {K : Type 0} (m : Meaning K) where
   pub held_in : (h : Heap K) → Good m.widest h → (x f j : ℕ) → x < h.used → f < h.features → slot h (end m.widest h x) f ≡ Some j → j < h.used
   held_in h g x f j l lf e = g.held (end m.widest h x) f j (end_in m.widest h g x l) lf e
 
-  pub extends_through : (h g k : Heap K) → Good m.widest h → Good m.widest g → h.used ≤ g.used → g.features ≡ h.features → Extends m h g → Extends m g k → Extends m h k
-  extends_through h g k gh gg le same e d =
-      record {
-        ends = λ x y lx ly q. d.ends x y (omega (arith, le, lx)) (omega (arith, le, ly)) (e.ends x y lx ly q);
-        kinds = λ x lx. m.through _ _ _ (d.kinds x (omega (arith, le, lx))) (e.kinds x lx);
-        leads = λ x f j lx lf q.
-            let lg : f < g.features = omega (arith, same, lf) in
-            let lw : x < g.used = omega (arith, le, lx) in
-            let (n, s, t) = e.leads x f j lx lf q in
-            let (p, u, v) = d.leads x f n lw lg s in
-            let lj : j < g.used = omega (arith, le, held_in h gh x f j lx lf q) in
-            (p, u, v ∙ d.ends n j (held_in g gg x f n lw lg s) lj t);
-      }
-
   -- a feature of the case leads to a thing exactly where a slot holds a cell with this end
   pub leads_in : (h : Heap K) (e f z : ℕ) → (structure_of m h).feature f e ≡ Some z → (f < h.features) × ((j : ℕ) × (slot h e f ≡ Some j) × (end m.widest h j ≡ z))
   leads_in h e f z q = go (nat_lt f h.features) refl (slot h e f) refl q where
