@@ -1,0 +1,5 @@
+pub mod Counting
+pub mod Lining
+pub mod Bounded
+pub mod Near
+pub mod Shelving

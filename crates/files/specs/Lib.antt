@@ -1,0 +1,5 @@
+pub mod Lines
+pub mod Counts
+pub mod Model
+pub mod Shelves
+pub mod Files
