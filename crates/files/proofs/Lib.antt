@@ -1,5 +1,6 @@
 pub mod Counting
 pub mod Lining
 pub mod Bounded
+pub mod Mapping
 pub mod Near
 pub mod Shelving

@@ -9,7 +9,7 @@ use Rattle.files.specs.Shelves.{Empty, said_in}
 
 module _ {K : Type 0} (terms : List (Term K)) (n : ℕ) (t : Term K) (rooms : Empty terms) (more : n < 200) where
   many : length terms ≡ 200
-  many = sym (length-map terms room_of) ∙ ap length rooms ∙ length-replicate 200 399
+  many = sym (length-map terms room_of) ∙ ap length rooms ∙ length-replicate {A = ℕ} 200 399
 
   pub room : (d : Term K) → room_of (slice_index_or terms n d) ≡ 399
   room d = sym (get_or-map room_of terms n d) ∙ ap (λ xs. slice_index_or xs n (room_of d)) rooms ∙ get_or-replicate 200 n 399 (room_of d) more
@@ -20,5 +20,6 @@ module _ {K : Type 0} (terms : List (Term K)) (n : ℕ) (t : Term K) (rooms : Em
 
   pub one_read : said_in (n + 1) (slice_set terms n t) ≡ said_in n terms ++ said_of t ∷ []
   one_read =
-      subst (λ k. said_in k (slice_set terms n t) ≡ said_in n terms ++ said_of t ∷ []) (omega arith)
+      let e : suc n ≡ n + 1 = omega arith in
+      subst (λ k. said_in k (slice_set terms n t) ≡ said_in n terms ++ said_of t ∷ []) e
       (ap (map said_of) (take-suc-set terms n t (omega (arith, more, many))) ∙ map-append said_of (take n terms) (t ∷ []))

@@ -29,3 +29,8 @@ with_state x (Err e) = Err e
 -- the count of a section that begins at s, and where its lines begin
 abbrev pub CountRead : ℕ → List ℕ → ℕ → Result (ℕ × ℕ) Refusal → Type 0
 CountRead limit file s r = (a : Result ℕ Refusal) × Counts limit (text_at file s) a × (r ≡ judged file s a)
+
+-- the same with another reading of what is there
+abbrev pub mapped : {A B : Type 0} → (A → B) → Result (A × ℕ) Refusal → Result (B × ℕ) Refusal
+mapped f (Ok p) = Ok (f p.0, p.1)
+mapped f (Err e) = Err e

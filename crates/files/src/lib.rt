@@ -7,3 +7,5 @@
 #![tactic(auto)]
 
 mod lines;
+pub mod made;
+pub mod memory;
