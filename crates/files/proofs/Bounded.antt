@@ -1,14 +1,13 @@
 -- The places that a line's tree tells lie in the line.
-use Rattle.std.proofs.Common.{◌≡◌, ℕ, ◌+◌, ◌≤◌, Bool, true, false, cond, List, [], ◌∷◌, ◌++◌, length, Some, None, Option, sym, refl, subst, arith}
+use Rattle.std.proofs.Common.{◌≡◌, ℕ, ◌+◌, ◌≤◌, Bool, true, false, cond, List, [], ◌∷◌, ◌++◌, length, Some, None, Option, refl, subst, arith}
 use Rattle.std.specs.List.{AllByRecursion}
 use Rattle.std.proofs.ByRecursion.{All-append}
 use Rattle.std.proofs.lemmas.List.{length-append}
 use Rattle.orders.specs.Texts.{Texts}
 use Rattle.grammar.specs.declared.statement.Statement.{Statement}
-use Rattle.grammar.specs.declared.statement.Statement.TheVariants.{Kind, Feature}
-use Rattle.grammar.specs.declared.statement.Said.{Said}
+use Rattle.grammar.specs.declared.statement.Statement.TheVariants.{Kind}
 use Rattle.grammar.specs.Trees.{Tree, Items, bare, described, none, item, label, written, listing, more}
-use Rattle.grammar.specs.Told.{Told, nothing, meet, say, mark, introduce, subject, variable, index, tell, tell_items, told, first}
+use Rattle.grammar.specs.Told.{Told, nothing, say, mark, introduce, subject, tell, tell_items, told, first}
 use Rattle.grammar.specs.Lines.{Line, WrongKind}
 
 abbrev pub AtMost : ℕ → Option ℕ → Type 0

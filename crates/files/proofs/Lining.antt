@@ -1,7 +1,7 @@
 -- Lines that are taken one by one.
-use Rattle.std.proofs.Common.{◌≡◌, ℕ, zero, suc, ◌+◌, ◌-◌, ◌<◌, ◌≤◌, List, Ok, Err, Result, sym, refl, subst, arith}
+use Rattle.std.proofs.Common.{◌≡◌, ℕ, zero, suc, ◌+◌, ◌-◌, ◌<◌, List, Ok, Err, Result, refl, subst, arith}
 use Rattle.refusals.specs.declared.Refusal.{Refusal}
-use Rattle.files.specs.Lines.{text_at, judged, Then, Lines}
+use Rattle.files.specs.Lines.{Then, Lines}
 use Rattle.files.specs.Model.{LineRead}
 
 module _ {S : Type 0} (Takes : S → List ℕ → S → Result ℕ Refusal → Type 0) (file : List ℕ) where

@@ -1,5 +1,5 @@
 -- Lines and sections that are taken into memory, as lines and sections of what is there.
-use Rattle.std.proofs.Common.{◌≡◌, ℕ, ap, length, zero, suc, ◌+◌, ◌≤◌, Bool, true, false, cond, List, Ok, Err, Result, refl, sym, ◌∙◌, subst}
+use Rattle.std.proofs.Common.{◌≡◌, ℕ, ap, length, zero, suc, ◌+◌, ◌≤◌, Bool, true, false, cond, List, Ok, Err, Result, refl, subst}
 use Rattle.std.specs.Result.{IfOk}
 use Rattle.refusals.specs.declared.Refusal.{Refusal}
 use Rattle.files.specs.Lines.{text_at, fed, length_at, goes_on, unfed, judged, Then, Lines}

@@ -2,4 +2,5 @@ pub mod Lines
 pub mod Counts
 pub mod Model
 pub mod Shelves
+pub mod Reads
 pub mod Files

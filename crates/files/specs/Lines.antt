@@ -4,7 +4,7 @@
 -- line begins at 13, its own rules refuse it with 3 at 6, and the file is refused with 3 at 19.
 -- Where no line feed ends the line, reasons 1 and 2 stand as for the same bytes with one; in place of all else the file is refused with 2
 -- at its end, where the line feed is missing. So a file that ends before its next line begins is refused with 2 at its end.
-use Rattle.std.specs.Prelude.{◌≡◌, ℕ, zero, suc, ◌+◌, ◌≤◌, Bool, cond, List, length, take, drop, Ok, Err, Result, ◌==◌, nat_lt}
+use Rattle.std.specs.Prelude.{◌≡◌, ℕ, zero, suc, ◌+◌, Bool, cond, List, length, take, drop, Ok, Err, Result, ◌==◌, nat_lt}
 use Rattle.std.specs.List.{position_or_len}
 use Rattle.refusals.specs.declared.Refusal.{Refusal}
 use Rattle.refusals.specs.declared.Refusal.TheVariants.{Limit, Grammar, Word, Kind}

@@ -1,5 +1,5 @@
 -- A shelf of terms, and what reading a line into the next one of them gives. A middle layer: no contract of a public call cites it.
-use Rattle.std.specs.Prelude.{◌≡◌, ℕ, ◌+◌, ◌<◌, List, map, length, take, Ok, Err, Result, replicate, vec_items}
+use Rattle.std.specs.Prelude.{◌≡◌, ℕ, ◌+◌, ◌<◌, List, map, take, Ok, Err, Result, replicate, vec_items}
 use Rattle.refusals.specs.declared.Refusal.{Refusal}
 use Rattle.orders.specs.Texts.{Texts}
 use Rattle.grammar.specs.declared.statement.Said.{Said}

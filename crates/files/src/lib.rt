@@ -9,3 +9,5 @@
 mod lines;
 pub mod made;
 pub mod memory;
+
+pub use lines::reads::{Book, read_file};

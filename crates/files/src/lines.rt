@@ -8,6 +8,7 @@ ghost use Rattle.files.specs.Counts.{Counts, value, Lawful};
 ghost use Rattle.files.specs.Model.{other, Near, LineRead, CountRead, with_state};
 ghost use Rattle.files.specs.Files.{Section as SectionOf};
 
+pub mod reads;
 pub mod shelf;
 pub mod tables;
 

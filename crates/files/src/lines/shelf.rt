@@ -12,10 +12,10 @@ use terms::term::Term;
 // Terms to be read into, the first `filled` of which have been.
 #[derive(Drop)]
 pub struct Shelf<'a, K, O> {
-    order: &'a O,
-    features: &'a Features,
-    terms: Vec<Term<K>>,
-    filled: usize,
+    pub order: &'a O,
+    pub features: &'a Features,
+    pub terms: Vec<Term<K>>,
+    pub filled: usize,
 }
 
 impl<K: Copy, O: WrittenOrder<Kind = K>> Section for Shelf<'_, K, O> {

@@ -18,7 +18,7 @@ loop-turn-preserved g c =
     let read = subst (LineRead g.S.Section.takes c.args.file.now c.loop-turn.at c.loop-turn.section c.take_at.new.section) c.in-Ok.is c.take_at.ensures.answer in (
       c.in-Ok.ensures.within,
       more g.S.Section.takes c.args.file.now c.args.count c.loop-turn.turn c.loop-turn.at (c.in-Ok.field-0-0, c.in-Ok.next) c.loop-turn.section c.take_at.new.section
-      (Lines g.S.Section.takes c.args.file.now c.args.count c.args.place c.args.section.now) c.loop-turn-test.true read c.loop-turn.invariant.1,
+          (Lines g.S.Section.takes c.args.file.now c.args.count c.args.place c.args.section.now) c.loop-turn-test.true read c.loop-turn.invariant.1,
     )
 
 pub returns-in-Err-clause-answer : goal.returns-in-Err-clause-answer

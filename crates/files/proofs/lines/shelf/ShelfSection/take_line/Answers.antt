@@ -1,4 +1,4 @@
-use Rattle.std.proofs.Common.{subst, ap, sym, ◌∙◌, refl, vec_items}
+use Rattle.std.proofs.Common.{subst, ap, ◌∙◌, refl, vec_items}
 use Rattle.features.specs.Model.{feature_names}
 use Rattle.grammar.specs.Lines.{Accepts, Refuses}
 use Rattle.terms.specs.Terms.{said_of, room_of}
