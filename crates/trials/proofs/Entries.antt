@@ -1,0 +1,32 @@
+-- Entries tried one by one.
+use Rattle.std.proofs.Common.{◌≡◌, ℕ, ◌+◌, ◌<◌, ◌≤◌, List, ◌++◌, map, length, get_or, drop, sym, ap, ◌∙◌, append_assoc, append-nil}
+use Rattle.std.proofs.lemmas.List.{drop_all}
+use Rattle.orders.specs.Meaning.{Meaning}
+use Rattle.grammar.specs.declared.statement.Statement.{Statement}
+use Rattle.terms.specs.declared.term.Term.{Term}
+use Rattle.compiler.specs.Views.{statements_in}
+use Rattle.compiler.proofs.Onward.{left_more}
+use Rattle.trials.specs.declared.trial.Trial.{Trial}
+use Rattle.trials.specs.Trials.{numbered, outcomes, trials_from}
+
+module _ {K : Type 0} (m : Meaning K) (features : ℕ) (rules : List (List (Statement K))) (terms : List (Term K)) (i : ℕ) where
+  abbrev left : ℕ → List (List (Statement K))
+  left k = map statements_in (drop k terms)
+
+  pub entries_more : (term : Term K) (entry : List (Statement K)) (f : ℕ) (before after whole : List (Trial K)) → i < length terms → term ≡ get_or terms i term
+      → entry ≡ statements_in term → f ≡ features → after ≡ before ++ numbered (i + 1) 1 (outcomes m f entry rules)
+      → before ++ trials_from m features (i + 1) (left i) rules ≡ whole → after ++ trials_from m features (i + 1 + 1) (left (i + 1)) rules ≡ whole
+  unfolding trials_from
+  entries_more term entry f before after whole l here same features_are is h =
+      let rest = trials_from m features (i + 1 + 1) (left (i + 1)) rules in
+      ap (λ ts. ts ++ rest) is
+      ∙ append_assoc before (numbered (i + 1) 1 (outcomes m f entry rules)) rest
+      ∙ ap (λ f. before ++ (numbered (i + 1) 1 (outcomes m f entry rules) ++ rest)) features_are
+      ∙ ap (λ ss. before ++ (numbered (i + 1) 1 (outcomes m features ss rules) ++ rest)) same
+      ∙ ap (λ ts. before ++ trials_from m features (i + 1) (map statements_in ts) rules) (sym (left_more terms term i l here))
+      ∙ h
+
+  pub entries_last : (before whole : List (Trial K)) → length terms ≤ i → before ++ trials_from m features (i + 1) (left i) rules ≡ whole → before ≡ whole
+  unfolding trials_from
+  entries_last before whole l h =
+      sym (append-nil before) ∙ ap (λ ts. before ++ trials_from m features (i + 1) (map statements_in ts) rules) (sym (drop_all i terms l)) ∙ h

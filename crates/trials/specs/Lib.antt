@@ -1,0 +1,3 @@
+pub mod Trials
+pub mod Memory
+pub mod Shown

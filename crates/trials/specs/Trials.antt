@@ -1,0 +1,90 @@
+-- What trying every rule on every entry gives. Entries and rules are given by their statements, and have their numbers from 1.
+use Rattle.std.specs.Prelude.{ℕ, ◌+◌, ◌*◌, List, [], ◌∷◌, ◌++◌, length, replicate, Ok, Err, Result, slice_index}
+use Rattle.refusals.specs.declared.Refusal.{Refusal}
+use Rattle.refusals.specs.declared.Refusal.TheVariants.{Limit, Grammar, Word, Kind, NoWidest, Memory, Cell, Feature, Full, Clash}
+use Rattle.orders.specs.Meaning.{Meaning}
+use Rattle.grammar.specs.declared.statement.Statement.{Statement}
+use Rattle.joining.specs.Heap.{Heap}
+use Rattle.osf.specs.Calls.{Lent, Left, opens, enters, matches, kind_asked}
+use Rattle.trials.specs.declared.trial.Trial.{Trial}
+use Rattle.trials.specs.declared.trial.Outcome.{Outcome}
+use Rattle.trials.specs.declared.trial.Outcome.TheVariants.{Yes, No, Refused}
+
+-- how much memory a case of 256 cells and so many features is lent: no more than it needs
+abbrev pub lent_for : ℕ → Lent
+lent_for features =
+    record {
+      cells = 256;
+      slots = 256 * features;
+      pending = 256 * features + 1;
+      spare_cells = 256;
+      spare_slots = 256 * features;
+    }
+
+module _ {K : Type 0} where
+  -- a clash is told by its statement, any other refusal as it is
+  abbrev pub refused_with : Refusal → Outcome K
+  refused_with (Clash s) = No s
+  refused_with (Limit p) = Refused (Limit p)
+  refused_with (Grammar p) = Refused (Grammar p)
+  refused_with (Word p) = Refused (Word p)
+  refused_with (Kind p) = Refused (Kind p)
+  refused_with (NoWidest i j) = Refused (NoWidest i j)
+  refused_with Memory = Refused Memory
+  refused_with Cell = Refused Cell
+  refused_with Feature = Refused Feature
+  refused_with Full = Refused Full
+
+  -- the kind that was asked for after a match that was accepted
+  abbrev pub kind_told : Result K Refusal → Outcome K
+  kind_told (Ok k) = Yes k
+  kind_told (Err e) = Refused e
+
+  abbrev pub matched : Result ℕ Refusal → Result K Refusal → Outcome K
+  matched (Ok n) asked = kind_told asked
+  matched (Err e) asked = refused_with e
+
+  -- the outcomes of the rules on an entry, from this rule on
+  unfoldable pub numbered : ℕ → ℕ → List (Outcome K) → List (Trial K)
+  numbered entry rule [] = []
+  numbered entry rule (o ∷ os) = record { entry = entry; rule = rule; outcome = o } ∷ numbered entry (rule + 1) os
+
+  -- each rule is refused
+  abbrev pub all_refused : Refusal → List (List (Statement K)) → List (Outcome K)
+  all_refused e rules = replicate (length rules) (Refused e)
+
+module _ {K : Type 0} (m : Meaning K) (features : ℕ) where
+  abbrev pub tried : List (Statement K) → ℕ → List ℕ → Heap K → Left K
+  tried rule root places h = matches m (lent_for features) rule root places h
+
+  -- what comes of a rule, by what it leaves
+  abbrev pub outcome_of : ℕ → Left K → Outcome K
+  outcome_of root left = matched left.answer (kind_asked m (lent_for features) root left.heap)
+
+  -- the rules, one after the other: each is matched at the root, on what those before it have left
+  unfoldable pub outcomes_at : ℕ → List ℕ → Heap K → List (List (Statement K)) → List (Outcome K)
+  outcomes_at root places h [] = []
+  outcomes_at root places h (rule ∷ rules) =
+      let left = tried rule root places h in outcome_of root left ∷ outcomes_at root left.places left.heap rules
+
+  -- the rules on an entry that was entered, whose root has the first place; or it was refused
+  abbrev pub outcomes_after : Result ℕ Refusal → Left K → List (List (Statement K)) → List (Outcome K)
+  outcomes_after (Ok n) left rules = outcomes_at (slice_index left.places 0) left.places left.heap rules
+  outcomes_after (Err e) left rules = all_refused e rules
+
+  abbrev pub outcomes_in : Result (Heap K) Refusal → List (Statement K) → List (List (Statement K)) → List (Outcome K)
+  outcomes_in (Ok h) entry rules =
+      let left = enters m (lent_for features) entry (replicate 200 0) h in outcomes_after left.answer left rules
+  outcomes_in (Err e) entry rules = all_refused e rules
+
+  -- the rules on an entry, which is entered in a case of its own, with a place list of 200 places
+  abbrev pub outcomes : List (Statement K) → List (List (Statement K)) → List (Outcome K)
+  outcomes entry rules = outcomes_in (opens m.widest 256 features (lent_for features)) entry rules
+
+  -- the entries from this number on
+  unfoldable pub trials_from : ℕ → List (List (Statement K)) → List (List (Statement K)) → List (Trial K)
+  trials_from n [] rules = []
+  trials_from n (entry ∷ entries) rules = numbered n 1 (outcomes entry rules) ++ trials_from (n + 1) entries rules
+
+  abbrev pub trials : List (List (Statement K)) → List (List (Statement K)) → List (Trial K)
+  trials entries rules = trials_from 1 entries rules
