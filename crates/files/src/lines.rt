@@ -51,23 +51,31 @@ fn line_at(file: &[u8], place: usize) -> &[u8]
     &rest[..leading(rest)]
 }
 
+// A place in a line that begins at `start`, counted from the file's start.
+fn in_file(start: usize, place: usize) -> usize
+    requires { start + place < 18446744073709551616 }
+    ensures { result ≡ start + place }
+{
+    start + place
+}
+
 // A refusal whose place counts from the file's start, where its line begins at `start`.
-fn in_file(start: usize, refusal: Refusal) -> Refusal
+fn moved(start: usize, refusal: Refusal) -> Refusal
     requires { (n : ℕ) × Near n refusal × (start + n < 9223372036854775808) }
     ensures { result ≡ from_start start refusal }
 {
     match refusal {
         Refusal::Limit { place } => Refusal::Limit {
-            place: start + place,
+            place: in_file(start, place),
         },
         Refusal::Grammar { place } => Refusal::Grammar {
-            place: start + place,
+            place: in_file(start, place),
         },
         Refusal::Word { place } => Refusal::Word {
-            place: start + place,
+            place: in_file(start, place),
         },
         Refusal::Kind { place } => Refusal::Kind {
-            place: start + place,
+            place: in_file(start, place),
         },
         _ => refusal,
     }
@@ -161,12 +169,16 @@ fn judge(
     if place + length < file.len() {
         return match outcome {
             Ok(number) => Ok((number, place + length + 1)),
-            Err(refusal) => Err(in_file(place, refusal)),
+            Err(refusal) => Err(moved(place, refusal)),
         };
     }
     Err(match outcome {
-        Err(Refusal::Limit { place: at }) => Refusal::Limit { place: place + at },
-        Err(Refusal::Grammar { place: at }) => Refusal::Grammar { place: place + at },
+        Err(Refusal::Limit { place: at }) => Refusal::Limit {
+            place: in_file(place, at),
+        },
+        Err(Refusal::Grammar { place: at }) => Refusal::Grammar {
+            place: in_file(place, at),
+        },
         _ => Refusal::Grammar { place: file.len() },
     })
 }

@@ -32,7 +32,9 @@ fn empty_terms<K: Copy>(heap: Global) -> Result<Vec<Term<K>>, AllocError>
 
 impl<K: Copy> Memory<K> {
     // Memory for the largest file.
-    pub fn new(heap: Global) -> Result<Memory<K>, AllocError> {
+    pub fn new(heap: Global) -> Result<Memory<K>, AllocError>
+        ensures { IfOk result (λ memory. Empty (vec_items memory.entries) × Empty (vec_items memory.rules)) }
+    {
         let entries = empty_terms(heap)?;
         let rules = empty_terms(heap)?;
         Ok(Memory { entries, rules })

@@ -59,16 +59,25 @@ fn check_end(file: &[u8], place: usize) -> Result<(), Refusal>
     Ok(())
 }
 
-// The section of kinds.
+// A section of at most so many kinds.
+fn take_kinds(file: &[u8], limit: usize) -> Result<(Draft, usize), Refusal>
+    ensures answer { SectionOf (kind_lines.Declares 64) limit file.now 0 (any ∷ []) (mapped drafted result) }
+    ensures within { IfOk result (λ p. p.1 ≤ length file.now) }
+{
+    let mut draft = Draft::new();
+    match take_section(&mut draft, limit, file, 0) {
+        Ok(next) => Ok((draft, next)),
+        Err(refusal) => Err(refusal),
+    }
+}
+
+// The section of kinds. The clauses are those of `take_kinds`: the answers to the goals there name steps of its code, and an edit of the
+// limit is to be refused by a fact.
 fn read_kinds(file: &[u8]) -> Result<(Draft, usize), Refusal>
     ensures answer { SectionOf (kind_lines.Declares 64) 63 file.now 0 (any ∷ []) (mapped drafted result) }
     ensures within { IfOk result (λ p. p.1 ≤ length file.now) }
 {
-    let mut draft = Draft::new();
-    match take_section(&mut draft, MOST_KINDS, file, 0) {
-        Ok(next) => Ok((draft, next)),
-        Err(refusal) => Err(refusal),
-    }
+    take_kinds(file, MOST_KINDS)
 }
 
 // The list of declared kinds.
@@ -76,10 +85,10 @@ fn close(draft: Draft) -> Result<List, Refusal>
     ensures { Closed (drafted draft) result }
 {
     let mut list = shipped();
-    match draft.close(&mut list) {
-        Ok(()) => Ok(list),
-        Err(refusal) => Err(refusal),
+    if let Err(unclosed) = draft.close(&mut list) {
+        return Err(unclosed);
     }
+    Ok(list)
 }
 
 // The section of features.
@@ -151,8 +160,8 @@ fn read_lists<K: Copy, O: OfList<Kind = K> + Drop>(
     })
 }
 
-// What a file says, or why it is refused.
-pub fn read_file<K: Copy, O: OfList<Kind = K> + Drop>(
+// What a file says, or why it is refused. The clause is that of `read_file`, which is thin for the same reason as `read_kinds`.
+fn read_whole<K: Copy, O: OfList<Kind = K> + Drop>(
     memory: Memory<K>,
     file: &[u8],
 ) -> Result<Book<K, O>, Refusal>
@@ -162,4 +171,14 @@ pub fn read_file<K: Copy, O: OfList<Kind = K> + Drop>(
     let (draft, features_at) = read_kinds(file)?;
     let list = close(draft)?;
     read_lists(list, memory, file, features_at)
+}
+
+// What a file says, or why it is refused.
+pub fn read_file<K: Copy, O: OfList<Kind = K> + Drop>(
+    memory: Memory<K>,
+    file: &[u8],
+) -> Result<Book<K, O>, Refusal>
+    ensures answer { FileRead O.made (λ l. O.texts (O.made l)) file.now result }
+{
+    read_whole(memory, file)
 }

@@ -3,5 +3,5 @@ use Rattle.std.proofs.lemmas.Result.{IfErr-at_err}
 use Rattle.files.specs.Model.{Near}
 use Rattle.files.proofs.lines.judge.Goals as goal
 
-pub in_file-requires : goal.in_file-requires
-in_file-requires c = (c.args.length, IfErr-at_err (Near c.args.length) c.in-Err.is c.requires.near, omega (arith, c.requires.within))
+pub moved-requires : goal.moved-requires
+moved-requires c = (c.args.length, IfErr-at_err (Near c.args.length) c.in-Err.is c.requires.near, omega (arith, c.requires.within))

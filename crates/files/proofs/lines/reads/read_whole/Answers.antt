@@ -1,7 +1,7 @@
 use Rattle.std.proofs.Common.{sym}
 use Rattle.kinds.specs.Lists.{drafted}
 use Rattle.files.proofs.Booking.{file_read}
-use Rattle.files.proofs.lines.reads.read_file.Goals as goal
+use Rattle.files.proofs.lines.reads.read_whole.Goals as goal
 
 pub returns : goal.returns
 returns g c =
