@@ -153,33 +153,3 @@ fn the_text_of_a_trial(rt: HostRuntime) -> Result<(), Fail> {
     assert!(rt; text.as_slice() == b"3 7 refused 9".as_slice());
     Ok(())
 }
-
-fn line_terms<O: WrittenOrder>(
-    order: &O,
-    line: &[u8],
-    other: &[u8],
-    heap: Global,
-) -> Result<Vec<Term<O::Kind>>, Fail> {
-    let mut terms = Vec::new(heap);
-    for i in 0..100 {
-        for part in [line, other] {
-            let mut term = Term::new(heap, MOST_STATEMENTS)?;
-            if term.read(order, &features(), part).is_err() {
-                return Err(Fail::new("a line is refused"));
-            }
-            terms.push(term)?;
-        }
-    }
-    Ok(terms)
-}
-
-#[test]
-fn speed(rt: HostRuntime) -> Result<(), Fail> {
-    let heap = rt.alloc();
-    let order = amounts();
-    let entries = line_terms(&order, b"debit/-4000..-4000(back=>debit/-4000..-1(a=>any/0..9,b=>any/0..9,f=>any/0..9(paid=>any/0..1,for=>any/0..1)),paid=>X,next=>any/1..2(a=>X))", b"any/-4000..-4000(back=>debit/-4000..-1(a=>any/0..9,b=>any/0..9,f=>any/0..9(paid=>any/0..1,for=>any/0..1)),paid=>X,next=>any/1..2(a=>X))", heap)?;
-    let rules = line_terms(&order, b"debit/-5000..-1(back=>any/-4000..0(a=>any/0..9,b=>any/0..9,f=>any/0..9(paid=>any/0..1,for=>any/0..1)),paid=>X,next=>any/1..2(a=>X))", b"debit/-5000..-1(back=>any/-4000..0(a=>any/0..9,b=>any/0..9,f=>any/0..9(paid=>any/0..1,for=>any/4..5)),paid=>X,next=>any/1..2(a=>X))", heap)?;
-    let trials = try_all(&order, 16, entries.as_slice(), rules.as_slice(), heap)?;
-    assert!(rt; trials.len() == 40000);
-    Ok(())
-}

@@ -16,12 +16,16 @@ use Rattle.cases.specs.Calls.{lent, heap_of, as_opened, enter_of, match_of, Kept
 use Rattle.cases.specs.Law.{LawIn}
 use Rattle.trials.specs.declared.memory.Memory.{Memory}
 use Rattle.trials.specs.Trials.{lent_for}
-use Rattle.trials.specs.Memory.{heap_in, places_in, Stands, Holds}
+use Rattle.trials.specs.Memory.{heap_in, entering, matching, Stands, Holds}
 use Rattle.trials.proofs.Standing.{opens_as, reached_by}
 
 -- what is lent of a `Vec` is put back
 pub put_back : {X Z : Type 0} (v : Vec X Z) (xs new : List X) → xs ≡ vec_items v → length new ≡ length xs → vec_items (with_items v new) ≡ new
 put_back v xs new e long = with_items_is v new (long ∙ ap length e ∙ sym v.ok.0)
+
+same_heap : {K : Type 0} (case : Case) (cells other_cells : List (Cell K)) (slots other_slots : List (Option ℕ)) → cells ≡ other_cells → slots ≡ other_slots
+    → heap_of case cells slots ≡ heap_of case other_cells other_slots
+same_heap case cells other_cells slots other_slots p q i = heap_of case (p i) (q i)
 
 module _ {K : Type 0} (b : Memory K) (cells : List (Cell K)) (slots : List (Option ℕ)) (pending : List (ℕ × ℕ)) (spare_cells : List (Cell K)) (spare_slots : List (Option ℕ))
     (cells_are : cells ≡ vec_items b.cells) (slots_are : slots ≡ vec_items b.slots) where
@@ -44,32 +48,32 @@ module _ {K : Type 0} (m : Meaning K) (b : Memory K) (stands : Stands m b) (l : 
   h = heap_of b.case cells slots
 
   same : h ≡ heap_in b
-  same = ap (λ cs. heap_of b.case cs slots) cells_are ∙ ap (λ ss. heap_of b.case (vec_items b.cells) ss) slots_are
+  same = same_heap b.case cells (vec_items b.cells) slots (vec_items b.slots) cells_are slots_are
 
   long : too_short_for b.case.cells b.case.features l ≡ false
   long = ap (λ l. too_short_for b.case.cells b.case.features l) is ∙ stands.enough
 
-  entering : (ss : List (Statement K)) → enter_of m l b.case ss places cells slots ≡ enters m (lent_for b.features) ss (places_in b) (heap_in b)
-  entering ss =
+  entering_is : (ss : List (Statement K)) → enter_of m l b.case ss places cells slots ≡ entering m b ss
+  entering_is ss =
       cond-false _ _ _ long
       ∙ ap (λ l. enters m l ss places h) is
       ∙ ap (λ g. enters m (lent_for b.features) ss places g) same
       ∙ ap (λ ps. enters m (lent_for b.features) ss ps (heap_in b)) places_are
 
   pub entering_answer : (ss : List (Statement K)) (r : Result ℕ Refusal) → r ≡ (enter_of m l b.case ss places cells slots).answer
-      → r ≡ (enters m (lent_for b.features) ss (places_in b) (heap_in b)).answer
-  entering_answer ss r e = e ∙ ap (λ (x : Left K). x.answer) (entering ss)
+      → r ≡ (entering m b ss).answer
+  entering_answer ss r e = e ∙ ap (λ (x : Left K). x.answer) (entering_is ss)
 
-  matching : (ss : List (Statement K)) (i : ℕ) → match_of m l b.case ss i places cells slots ≡ matches m (lent_for b.features) ss i (places_in b) (heap_in b)
-  matching ss i =
+  matching_is : (ss : List (Statement K)) (i : ℕ) → match_of m l b.case ss i places cells slots ≡ matching m b ss i
+  matching_is ss i =
       cond-false _ _ _ long
       ∙ ap (λ l. matches m l ss i places h) is
       ∙ ap (λ g. matches m (lent_for b.features) ss i places g) same
       ∙ ap (λ ps. matches m (lent_for b.features) ss i ps (heap_in b)) places_are
 
   pub matching_answer : (ss : List (Statement K)) (i : ℕ) (r : Result ℕ Refusal) → r ≡ (match_of m l b.case ss i places cells slots).answer
-      → r ≡ (matches m (lent_for b.features) ss i (places_in b) (heap_in b)).answer
-  matching_answer ss i r e = e ∙ ap (λ (x : Left K). x.answer) (matching ss i)
+      → r ≡ (matching m b ss i).answer
+  matching_answer ss i r e = e ∙ ap (λ (x : Left K). x.answer) (matching_is ss i)
 
   module _ (after : Memory K) (features_are : after.features ≡ b.features) (new_cells : List (Cell K)) (new_slots : List (Option ℕ)) (new_places : List ℕ)
       (new_cells_are : vec_items after.cells ≡ new_cells) (new_slots_are : vec_items after.slots ≡ new_slots) (new_places_are : vec_items after.places ≡ new_places) where
@@ -78,8 +82,7 @@ module _ {K : Type 0} (m : Meaning K) (b : Memory K) (stands : Stands m b) (l : 
     holds call x left e leaves kept law =
         let goes = law long stands.history (subst (λ g. Reached m (case_at m g stands.history)) (sym same) stands.reached) in
         let (history, reached) = reached_by m _ h _ stands.history goes in
-        let there = ap (λ cs. heap_of after.case cs new_slots) new_cells_are in
-        let now = ap (λ ss. heap_of after.case (vec_items after.cells) ss) new_slots_are ∙ there in
+        let now = same_heap after.case (vec_items after.cells) new_cells (vec_items after.slots) new_slots new_cells_are new_slots_are in
         record {
           heap_is = now ∙ sym goes.leaves ∙ leaves stands.history ∙ ap (λ (x : Left K). x.heap) e;
           places_are = new_places_are ∙ kept.1.1.1 ∙ ap (λ (x : Left K). x.places) e;
@@ -91,14 +94,14 @@ module _ {K : Type 0} (m : Meaning K) (b : Memory K) (stands : Stands m b) (l : 
         }
 
     pub entering_holds : (ss : List (Statement K)) → Kept (enter_of m l b.case ss places cells slots) b.case cells slots after.case new_cells new_slots new_places
-        → LawIn m b.case l (entered ss) places h (heap_of after.case new_cells new_slots) → Holds m (enters m (lent_for b.features) ss (places_in b) (heap_in b)) after
+        → LawIn m b.case l (entered ss) places h (heap_of after.case new_cells new_slots) → Holds m (entering m b ss) after
     unfolding after_call
-    entering_holds ss = holds (entered ss) _ _ (entering ss) (λ t. sym (ap (λ (x : Left K). x.heap) (cond-false _ _ _ long)))
+    entering_holds ss = holds (entered ss) _ _ (entering_is ss) (λ t. sym (ap (λ (x : Left K). x.heap) (cond-false _ _ _ long)))
 
     pub matching_holds : (ss : List (Statement K)) (i : ℕ) → Kept (match_of m l b.case ss i places cells slots) b.case cells slots after.case new_cells new_slots new_places
-        → LawIn m b.case l (matched ss i) places h (heap_of after.case new_cells new_slots) → Holds m (matches m (lent_for b.features) ss i (places_in b) (heap_in b)) after
+        → LawIn m b.case l (matched ss i) places h (heap_of after.case new_cells new_slots) → Holds m (matching m b ss i) after
     unfolding after_call
-    matching_holds ss i = holds (matched ss i) _ _ (matching ss i) (λ t. sym (ap (λ (x : Left K). x.heap) (cond-false _ _ _ long)))
+    matching_holds ss i = holds (matched ss i) _ _ (matching_is ss i) (λ t. sym (ap (λ (x : Left K). x.heap) (cond-false _ _ _ long)))
 
 -- a case that was opened is in the memory
 pub opened_stands : {K : Type 0} (m : Meaning K) (after : Memory K) (l : Lent) (is : l ≡ lent_for after.features) (cells : List (Cell K)) (slots : List (Option ℕ))
@@ -107,8 +110,7 @@ pub opened_stands : {K : Type 0} (m : Meaning K) (after : Memory K) (l : Lent) (
     → (opens m.widest 256 after.features (lent_for after.features) ≡ Ok (heap_in after)) × Stands m after
 opened_stands {K} m after l is cells slots cells_are slots_are answer law =
     let (opens_is, enough) = opens_as m after.features l after.case answer in
-    let now : heap_in after ≡ heap_of after.case cells slots =
-    ap (λ cs. heap_of after.case cs (vec_items after.slots)) cells_are ∙ ap (λ ss. heap_of after.case cells ss) slots_are in (
+    let now = same_heap after.case (vec_items after.cells) cells (vec_items after.slots) slots cells_are slots_are in (
       ap (λ l. opens m.widest 256 after.features l) (sym is) ∙ opens_is ∙ ap (λ (h : Heap K). Ok h) (law.leaves ∙ sym now),
       record {
         history = no_calls;

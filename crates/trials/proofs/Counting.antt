@@ -34,16 +34,18 @@ module _ {K : Type 0} (m : Meaning K) (features : ℕ) where
   in_length (Ok h) entry rules = after_length _ _ rules
   in_length (Err e) entry rules = length-replicate {A = Outcome K} (length rules) (Refused e)
 
+  pub entry_length : (n : ℕ) (entry : List (Statement K)) (rules : List (List (Statement K))) → length (numbered n 1 (outcomes m features entry rules)) ≡ length rules
+  entry_length n entry rules =
+      numbered_length n 1 (outcomes m features entry rules) ∙ in_length (opens m.widest 256 features (lent_for features)) entry rules
+
   trials_from_length : (n : ℕ) (entries rules : List (List (Statement K))) → length (trials_from m features n entries rules) ≡ length entries * length rules
   unfolding trials_from
   trials_from_length n [] rules = omega arith
   trials_from_length n (entry ∷ entries) rules =
-      let os = outcomes m features entry rules in
       omega (
         arith,
-        length-append (numbered n 1 os) (trials_from m features (n + 1) entries rules),
-        numbered_length n 1 os,
-        in_length (opens m.widest 256 features (lent_for features)) entry rules,
+        length-append (numbered n 1 (outcomes m features entry rules)) (trials_from m features (n + 1) entries rules),
+        entry_length n entry rules,
         trials_from_length (n + 1) entries rules,
       )
 

@@ -13,7 +13,7 @@ use Rattle.trials.specs.declared.trial.Outcome.{Outcome}
 use Rattle.trials.specs.declared.trial.Outcome.TheVariants.{Refused}
 use Rattle.trials.specs.declared.memory.Memory.{Memory}
 use Rattle.trials.specs.Trials.{numbered, tried, outcome_of, outcomes_at}
-use Rattle.trials.specs.Memory.{heap_in, places_in, Holds}
+use Rattle.trials.specs.Memory.{heap_in, places_in, matching, Holds}
 
 module _ {K : Type 0} (entry : ℕ) where
   abbrev pub trial : ℕ → Outcome K → Trial K
@@ -34,21 +34,30 @@ module _ {K : Type 0} (entry : ℕ) where
   note_none before rule = sym (append-nil before)
 
 module _ {K : Type 0} (entry : ℕ) (e : Refusal) (rules i : ℕ) where
-  pub refused_more : (before after whole : List (Trial K)) → i < rules → after ≡ before ++ trial entry (i + 1) (Refused e) ∷ []
-      → before ++ numbered entry (i + 1) (replicate (rules - i) (Refused e)) ≡ whole
-      → after ++ numbered entry (i + 1 + 1) (replicate (rules - (i + 1)) (Refused e)) ≡ whole
-  refused_more before after whole l is h =
-      let one : rules - i ≡ suc (rules - (i + 1)) = omega arith in
-      note_more entry before after (i + 1) (Refused e) (replicate (rules - (i + 1)) (Refused e)) (replicate (rules - i) (Refused e)) (ap (λ n. replicate n (Refused e)) one) is ∙ h
+  -- as many refusals
+  abbrev refusals : ℕ → List (Outcome K)
+  refusals n = replicate n (Refused e)
 
-  pub refused_last : (before whole : List (Trial K)) → rules ≤ i → before ++ numbered entry (i + 1) (replicate (rules - i) (Refused e)) ≡ whole → before ≡ whole
-  refused_last before whole l h =
+  pub refused_more : (start before after : List (Trial K)) → i < rules → after ≡ before ++ trial entry (i + 1) (Refused e) ∷ []
+      → before ++ numbered entry (i + 1) (refusals (rules - i)) ≡ start ++ numbered entry 1 (refusals rules)
+      → after ++ numbered entry (i + 1 + 1) (refusals (rules - (i + 1))) ≡ start ++ numbered entry 1 (refusals rules)
+  refused_more start before after l is h =
+      let one : rules - i ≡ suc (rules - (i + 1)) = omega arith in
+      note_more entry before after (i + 1) (Refused e) (refusals (rules - (i + 1))) (refusals (rules - i)) (ap refusals one) is ∙ h
+
+  pub refused_last : (start before : List (Trial K)) → rules ≤ i → before ++ numbered entry (i + 1) (refusals (rules - i)) ≡ start ++ numbered entry 1 (refusals rules)
+      → before ≡ start ++ numbered entry 1 (refusals rules)
+  refused_last start before l h =
       let none : 0 ≡ rules - i = omega arith in
-      note_none entry before (i + 1) ∙ ap (λ n. before ++ numbered entry (i + 1) (replicate n (Refused e))) none ∙ h
+      note_none entry before (i + 1) ∙ ap (λ n. before ++ numbered entry (i + 1) (refusals n)) none ∙ h
 
 module _ {K : Type 0} (m : Meaning K) (features entry root : ℕ) (rules : List (Rule K)) (i : ℕ) where
   abbrev come : List ℕ → Heap K → ℕ → List (Outcome K)
   come places h k = outcomes_at m features root places h (map statements_of (drop k rules))
+
+  -- all that is noted then, where the first rule is tried on the case in this memory
+  abbrev pub whole : Memory K → List (Trial K) → List (Trial K)
+  whole first start = start ++ numbered entry 1 (outcomes_at m features root (places_in first) (heap_in first) (map statements_of rules))
 
   come_more : (places : List ℕ) (h : Heap K) (rule : Rule K) → i < length rules → rule ≡ get_or rules i rule
       → come places h i ≡ (let left = tried m features (statements_of rule) root places h in outcome_of m features root left ∷ come left.places left.heap (i + 1))
@@ -59,12 +68,13 @@ module _ {K : Type 0} (m : Meaning K) (features entry root : ℕ) (rules : List 
   unfolding outcomes_at
   come_none places h l = ap (λ rs. outcomes_at m features root places h (map statements_of rs)) (drop_all i rules l)
 
-  pub tried_more : (b c : Memory K) → b.features ≡ features → (before after whole : List (Trial K)) (rule : Rule K) (o : Outcome K) → i < length rules → rule ≡ get_or rules i rule
-      → o ≡ outcome_of m b.features root (tried m b.features (statements_of rule) root (places_in b) (heap_in b))
-      → Holds m (tried m b.features (statements_of rule) root (places_in b) (heap_in b)) c
+  pub tried_more : (first b c : Memory K) → b.features ≡ features → (start before after : List (Trial K)) (rule : Rule K) (o : Outcome K) → i < length rules → rule ≡ get_or rules i rule
+      → o ≡ outcome_of m b.features root (matching m b (statements_of rule) root)
+      → Holds m (matching m b (statements_of rule) root) c
       → after ≡ before ++ trial entry (i + 1) o ∷ []
-      → before ++ numbered entry (i + 1) (come (places_in b) (heap_in b) i) ≡ whole → after ++ numbered entry (i + 1 + 1) (come (places_in c) (heap_in c) (i + 1)) ≡ whole
-  tried_more b c same before after whole rule o l here told left is h =
+      → before ++ numbered entry (i + 1) (come (places_in b) (heap_in b) i) ≡ whole first start
+      → after ++ numbered entry (i + 1 + 1) (come (places_in c) (heap_in c) (i + 1)) ≡ whole first start
+  tried_more first b c same start before after rule o l here told left is h =
       let by : ℕ → Left K = λ f. tried m f (statements_of rule) root (places_in b) (heap_in b) in
       let holds = subst (λ f. Holds m (by f) c) same left in
       note_more entry before after (i + 1) o (come (places_in c) (heap_in c) (i + 1)) (come (places_in b) (heap_in b) i)
@@ -77,6 +87,7 @@ module _ {K : Type 0} (m : Meaning K) (features entry root : ℕ) (rules : List 
       is
       ∙ h
 
-  pub tried_last : (b : Memory K) (before whole : List (Trial K)) → length rules ≤ i → before ++ numbered entry (i + 1) (come (places_in b) (heap_in b) i) ≡ whole → before ≡ whole
-  tried_last b before whole l h =
+  pub tried_last : (first b : Memory K) (start before : List (Trial K)) → length rules ≤ i
+      → before ++ numbered entry (i + 1) (come (places_in b) (heap_in b) i) ≡ whole first start → before ≡ whole first start
+  tried_last first b start before l h =
       note_none entry before (i + 1) ∙ ap (λ os. before ++ numbered entry (i + 1) os) (sym (come_none (places_in b) (heap_in b) l)) ∙ h

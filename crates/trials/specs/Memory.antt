@@ -4,12 +4,12 @@ use Rattle.refusals.specs.declared.Refusal.{Refusal}
 use Rattle.orders.specs.Meaning.{Meaning}
 use Rattle.grammar.specs.declared.statement.Statement.{Statement}
 use Rattle.joining.specs.Heap.{Heap}
-use Rattle.osf.specs.Calls.{Left, too_short_for}
+use Rattle.osf.specs.Calls.{Left, too_short_for, enters}
 use Rattle.osf.specs.Runs.{History}
 use Rattle.osf.specs.Reached.{Reached, case_at}
 use Rattle.cases.specs.Calls.{heap_of}
 use Rattle.trials.specs.declared.memory.Memory.{Memory}
-use Rattle.trials.specs.Trials.{lent_for, all_refused, outcomes_at, outcomes}
+use Rattle.trials.specs.Trials.{lent_for, all_refused, tried, outcomes_at, outcomes}
 
 module _ {K : Type 0} where
   abbrev pub heap_in : Memory K → Heap K
@@ -24,6 +24,14 @@ module _ {K : Type 0} (m : Meaning K) where
     pub history : History K
     pub reached : Reached m (case_at m (heap_in b) history)
     pub enough : too_short_for b.case.cells b.case.features (lent_for b.features) ≡ false
+
+  -- what entering an entry answers and leaves of the case in the memory
+  abbrev pub entering : Memory K → List (Statement K) → Left K
+  entering b entry = enters m (lent_for b.features) entry (places_in b) (heap_in b)
+
+  -- and matching a rule at a root
+  abbrev pub matching : Memory K → List (Statement K) → ℕ → Left K
+  matching b rule root = tried m b.features rule root (places_in b) (heap_in b)
 
   -- a heap was opened, which is in the memory, and all places are 0; or it was refused
   abbrev pub Opened : Result (Heap K) Refusal → Memory K → Result (Unit {0}) Refusal → Type 0

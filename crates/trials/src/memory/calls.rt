@@ -2,9 +2,9 @@
 ghost use Rattle.std.specs.Prelude.{◌≡◌, IfOk, slice_index};
 ghost use Rattle.compiler.specs.Entries.{statements_of as statements_of_entry};
 ghost use Rattle.compiler.specs.Rules.{statements_of as statements_of_rule};
-ghost use Rattle.osf.specs.Calls.{opens, enters, kind_asked};
-ghost use Rattle.trials.specs.Trials.{lent_for, refused_with as told, tried, outcome_of};
-ghost use Rattle.trials.specs.Memory.{heap_in, places_in, Stands, Opened, Begun, Holds};
+ghost use Rattle.osf.specs.Calls.{opens, kind_asked};
+ghost use Rattle.trials.specs.Trials.{lent_for, refused_with as as_told, outcome_of};
+ghost use Rattle.trials.specs.Memory.{heap_in, places_in, entering, matching, Stands, Opened, Begun, Holds};
 
 use super::Memory;
 use crate::trial::Outcome;
@@ -24,7 +24,7 @@ const CELLS: usize = 256;
 
 // A clash is told by its statement.
 fn refused_with<K>(refusal: Refusal) -> Outcome<K>
-    ensures { result ≡ told refusal }
+    ensures { result ≡ as_told refusal }
 {
     match refusal {
         Refusal::Clash { statement } => Outcome::No { statement },
@@ -92,8 +92,8 @@ impl<K: Copy> Memory<K> {
 
     fn enter<O: Order<Kind = K>>(&mut self, order: &O, entry: &Entry<K>) -> Result<usize, Refusal>
         requires { Stands (O.meaning order.now) self.old }
-        ensures answer { result ≡ (enters (O.meaning order.now) (lent_for self.old.features) (statements_of_entry entry.now) (places_in self.old) (heap_in self.old)).answer }
-        ensures left { Holds (O.meaning order.now) (enters (O.meaning order.now) (lent_for self.old.features) (statements_of_entry entry.now) (places_in self.old) (heap_in self.old)) self.new }
+        ensures answer { result ≡ (entering (O.meaning order.now) self.old (statements_of_entry entry.now)).answer }
+        ensures left { Holds (O.meaning order.now) (entering (O.meaning order.now) self.old (statements_of_entry entry.now)) self.new }
         ensures features { self.new.features ≡ self.old.features }
     {
         enter(
@@ -116,8 +116,8 @@ impl<K: Copy> Memory<K> {
         root: usize,
     ) -> Result<usize, Refusal>
         requires { Stands (O.meaning order.now) self.old }
-        ensures answer { result ≡ (tried (O.meaning order.now) self.old.features (statements_of_rule rule.now) root (places_in self.old) (heap_in self.old)).answer }
-        ensures left { Holds (O.meaning order.now) (tried (O.meaning order.now) self.old.features (statements_of_rule rule.now) root (places_in self.old) (heap_in self.old)) self.new }
+        ensures answer { result ≡ (matching (O.meaning order.now) self.old (statements_of_rule rule.now) root).answer }
+        ensures left { Holds (O.meaning order.now) (matching (O.meaning order.now) self.old (statements_of_rule rule.now) root) self.new }
         ensures features { self.new.features ≡ self.old.features }
     {
         match_rule(
@@ -171,8 +171,8 @@ impl<K: Copy> Memory<K> {
     // What comes of a rule at the root.
     fn try_rule<O: Order<Kind = K>>(&mut self, order: &O, rule: &Rule<K>, root: usize) -> Outcome<K>
         requires { Stands (O.meaning order.now) self.old }
-        ensures outcome { result ≡ outcome_of (O.meaning order.now) self.old.features root (tried (O.meaning order.now) self.old.features (statements_of_rule rule.now) root (places_in self.old) (heap_in self.old)) }
-        ensures left { Holds (O.meaning order.now) (tried (O.meaning order.now) self.old.features (statements_of_rule rule.now) root (places_in self.old) (heap_in self.old)) self.new }
+        ensures outcome { result ≡ outcome_of (O.meaning order.now) self.old.features root (matching (O.meaning order.now) self.old (statements_of_rule rule.now) root) }
+        ensures left { Holds (O.meaning order.now) (matching (O.meaning order.now) self.old (statements_of_rule rule.now) root) self.new }
         ensures features { self.new.features ≡ self.old.features }
     {
         match self.match_rule(order, rule, root) {

@@ -1,4 +1,4 @@
-use Rattle.std.proofs.Common.{◌≡◌, ◌+◌, ◌≤◌, ◌++◌, map, drop, vec_items}
+use Rattle.std.proofs.Common.{◌≡◌, ◌+◌, ◌-◌, ◌*◌, ◌≤◌, ◌++◌, map, length, drop, vec_items, vec_len, vec_capacity}
 use Rattle.compiler.specs.Views.{statements_in}
 use Rattle.compiler.specs.Entries.{room_of}
 use Rattle.compiler.specs.Rules.{statements_of}
@@ -12,6 +12,7 @@ invariant-loop-index g l =
     let features = l.initial.self.features in
     let rules = map statements_of l.rules in
     (599 ≤ room_of l.entry)
+    × (vec_len l.trials + (length l.entries - l.index) * length l.rules ≤ vec_capacity l.trials)
     × (l.self.features ≡ features)
     × (vec_items l.trials ++ trials_from m features (l.index + 1) (map statements_in (drop l.index l.entries)) rules
     ≡ vec_items l.initial.trials ++ trials_from m features 1 (map statements_in l.entries) rules)

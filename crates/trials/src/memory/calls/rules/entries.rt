@@ -1,5 +1,5 @@
 // Every rule tried on every entry.
-ghost use Rattle.std.specs.Prelude.{◌≡◌, ◌≤◌, ◌*◌, ◌++◌, [], map, length, OnOk, IfOk};
+ghost use Rattle.std.specs.Prelude.{◌≡◌, ◌+◌, ◌*◌, ◌≤◌, ◌++◌, [], map, length, vec_len, vec_capacity, IfOk};
 ghost use Rattle.compiler.specs.Views.{statements_in};
 ghost use Rattle.compiler.specs.Entries.{statements_of as statements_of_entry, room_of as room_of_entry};
 ghost use Rattle.compiler.specs.Rules.{statements_of as statements_of_rule};
@@ -47,7 +47,7 @@ fn room_for<K: Copy>(
     rules: usize,
     heap: Global,
 ) -> Result<Vec<Trial<K>>, AllocError>
-    ensures { IfOk result (λ trials. trials.items ≡ []) }
+    ensures { IfOk result (λ trials. (trials.items ≡ []) × (entries * rules ≤ vec_capacity trials)) }
 {
     match entries.checked_mul(rules) {
         Some(count) => Vec::with_capacity(heap, count),
@@ -64,15 +64,15 @@ impl<K: Copy> Memory<K> {
         entry: &mut Entry<K>,
         rules: &[Rule<K>],
         trials: &mut Vec<Trial<K>>,
-    ) -> Result<(), AllocError>
-        requires { 599 ≤ room_of_entry entry.old }
-        ensures { OnOk result (trials.new.items ≡ trials.old.items ++ trials_from (O.meaning order.now) self.old.features 1 (map statements_in entries.now) (map statements_of_rule rules.now)) }
+    )
+        requires entry { 599 ≤ room_of_entry entry.old }
+        requires room { vec_len trials.old + length entries.now * length rules.now ≤ vec_capacity trials.old }
+        ensures { trials.new.items ≡ trials.old.items ++ trials_from (O.meaning order.now) self.old.features 1 (map statements_in entries.now) (map statements_of_rule rules.now) }
     {
         for (index, term) in entries.iter().enumerate() {
             refill(entry, term);
-            self.try_entry(order, index + 1, entry, rules, trials)?;
+            self.try_entry(order, index + 1, entry, rules, trials);
         }
-        Ok(())
     }
 }
 
@@ -90,7 +90,7 @@ fn all_trials<K: Copy, O: Order<Kind = K>>(
     let mut entry = Entry::new(heap, MOST_IN_ENTRY)?;
     let rules = compile_all(rules, heap)?;
     let mut trials = room_for(entries.len(), rules.len(), heap)?;
-    memory.try_entries(order, entries, &mut entry, rules.as_slice(), &mut trials)?;
+    memory.try_entries(order, entries, &mut entry, rules.as_slice(), &mut trials);
     Ok(trials)
 }
 
