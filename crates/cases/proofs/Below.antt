@@ -8,7 +8,7 @@ use Rattle.osf.specs.Calls.{features_below}
 use Rattle.cases.specs.Limits.{is_below}
 
 module _ {K : Type 0} (f : ℕ) where
-  below_first : (s : Statement K) (ss : List (Statement K)) → features_below f (s ∷ ss) ≡ is_below f s && features_below f ss
+  pub below_first : (s : Statement K) (ss : List (Statement K)) → features_below f (s ∷ ss) ≡ is_below f s && features_below f ss
   unfolding features_below
   below_first (Kind x k) ss = refl
   below_first (Feature x g y) ss = refl

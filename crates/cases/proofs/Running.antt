@@ -1,5 +1,5 @@
 -- Running codes: what is still to be run gives the outcome of the whole.
-use Rattle.std.proofs.Common.{◌≡◌, ℕ, zero, suc, ◌+◌, ◌-◌, ◌<◌, ◌≤◌, List, [], ◌∷◌, length, get_or, drop, Some, None, Ok, Err, Option, Result, slice_get, sym, ap, subst, ◌∙◌, add-one, arith}
+use Rattle.std.proofs.Common.{◌≡◌, ℕ, zero, suc, ◌+◌, ◌-◌, ◌<◌, ◌≤◌, List, [], ◌∷◌, ◌++◌, length, get_or, drop, Some, None, Ok, Err, Option, Result, slice_get, sym, ap, subst, ◌∙◌, add-one, arith}
 use Rattle.std.specs.List.{AllByRecursion}
 use Rattle.std.proofs.lemmas.List.{at_drop_more, at_drop_all}
 use Rattle.std.proofs.lemmas.Option.{none-some, same_Some}
@@ -12,6 +12,11 @@ pub all_got : {X : Type 0} (P : X → Type 0) (xs : List X) (k : ℕ) (x : X) �
 all_got P [] k x a e = absurd (none-some x e)
 all_got P (y ∷ ys) zero x a e = subst P (same_Some y x e) a.0
 all_got P (y ∷ ys) (suc k) x a e = all_got P ys k x a.1 e
+
+-- what holds of both parts of a code holds of it
+pub all_both : {X : Type 0} (P : X → Type 0) (xs ys : List X) → AllByRecursion P xs → AllByRecursion P ys → AllByRecursion P (xs ++ ys)
+all_both P [] ys a b = b
+all_both P (x ∷ xs) ys a b = (a.0, all_both P xs ys a.1 b)
 
 module _ {K : Type 0} (m : Meaning K) (ks : List K) where
   -- an entry's code: one instruction more, and none

@@ -10,12 +10,9 @@ use Rattle.instructions.specs.declared.instruction.Instruction.TheVariants.{Push
 use Rattle.instructions.specs.Codes.{Compiling, beginning, subject, depth_of, is_new, closes, ends_before, told, is_root_kind, told_by_rule, read, next, more_depths, entry_from, read_from, write_from, entry_code, read_code, write_code}
 use Rattle.compiler.proofs.Onward.{depths_next, some_met, some_variable}
 use Rattle.cases.specs.Machines.{Sets, AllSet}
+use Rattle.cases.proofs.Running.{all_both}
 
 module _ (n : ℕ) where
-  both_set : (is js : List Instruction) → AllSet n is → AllSet n js → AllSet n (is ++ js)
-  both_set [] js a b = b
-  both_set (i ∷ is) js a b = (a.0, both_set is js a.1 b)
-
   closes_set : (d e label : ℕ) → AllSet n (closes d e label)
   unfolding closes
   closes_set zero e label = tt
@@ -62,7 +59,7 @@ module _ (n : ℕ) where
     unfolding entry_from
     entry_from_set c [] l = tt
     entry_from_set c (s ∷ ss) l =
-        both_set (told c s) (entry_from (next c s) ss) (told_set c s (now s ss c.depths l)) (entry_from_set (next c s) ss (left s ss c.depths l))
+        all_both (Sets n) (told c s) (entry_from (next c s) ss) (told_set c s (now s ss c.depths l)) (entry_from_set (next c s) ss (left s ss c.depths l))
 
     read_from_set : (c : Compiling) (ss : List (Statement K)) → length (depths_from c.depths ss) ≤ n → AllSet n (read_from c ss)
     unfolding read_from
@@ -73,8 +70,8 @@ module _ (n : ℕ) where
     unfolding write_from
     write_from_set c [] l = closes_set c.depth 0 c.statements
     write_from_set c (s ∷ ss) l =
-        both_set (ends_before c (subject s)) _ (closes_set c.depth (depth_of c (subject s)) c.statements)
-        (both_set (told_by_rule c s) _ (told_by_rule_set c s (now s ss c.depths l)) (write_from_set (next c s) ss (left s ss c.depths l)))
+        all_both (Sets n) (ends_before c (subject s)) _ (closes_set c.depth (depth_of c (subject s)) c.statements)
+        (all_both (Sets n) (told_by_rule c s) _ (told_by_rule_set c s (now s ss c.depths l)) (write_from_set (next c s) ss (left s ss c.depths l)))
 
 module _ {K : Type 0} (ss : List (Statement K)) (n : ℕ) (l : length (depths ss) ≤ n) (code : List Instruction) where
   pub entry_set : code ≡ entry_code ss → AllSet n code

@@ -1,5 +1,7 @@
 pub mod Memory
+pub mod Within
 pub mod Calls
+pub mod Pushing
 pub mod Machines
 pub mod Limits
 pub mod Terms

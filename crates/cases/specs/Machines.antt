@@ -1,5 +1,5 @@
 -- A machine as it lies in memory, and what its steps leave there. A middle layer: no contract of a public call cites it.
-use Rattle.std.specs.Prelude.{◌≡◌, ℕ, ◌+◌, ◌<◌, Bool, true, false, List, take, Some, None, Ok, Err, Option, Result}
+use Rattle.std.specs.Prelude.{◌≡◌, ℕ, ◌+◌, ◌<◌, Bool, true, false, List, take, Some, None, Ok, Err, Option, Result, slice_index}
 use Rattle.std.specs.List.{AllByRecursion}
 use Rattle.orders.specs.Meaning.{Meaning}
 use Rattle.joining.specs.declared.cell.Cell.{Cell}
@@ -11,6 +11,8 @@ use Rattle.instructions.specs.declared.instruction.Mode.TheVariants.{Write}
 use Rattle.instructions.specs.Steps.{Machine, set_place}
 use Rattle.cases.specs.declared.store.pairs.steps.Progress.{Progress}
 use Rattle.cases.specs.Memory.{heap_in}
+use Rattle.cases.specs.Within.{Within}
+use Rattle.cases.specs.Pushing.{Codes, Room}
 
 -- the register that an instruction sets is below n
 abbrev pub Sets : ℕ → Instruction → Type 0
@@ -58,6 +60,17 @@ module _ {K : Type 0} (m : Meaning K) where
       (narrowed m e (m.common (kind_in m.widest before e) k) (record { heap = heap_in used features before slots; places = places }))
       (record { heap = heap_in used features after slots; places = places })
       r
+
+  -- nothing leads out of the first n cells, and registers have none but these
+  pub record StateWithin (n : ℕ) (s : State K) : Type 0 where
+    pub heap : Within n s.heap.features s.heap.cells s.heap.slots m.widest
+    pub places : (r : ℕ) → slice_index s.places r < n
+
+  -- and running the codes from the machine t comes to no others
+  pub record RunsWithin (n : ℕ) (reads writes : List Instruction) (t : Machine K) : Type 0 where
+    pub room : Room reads writes n t.mode t.at t.state.heap.used
+    pub codes : Codes reads writes t.state.heap.features
+    pub state : StateWithin n t.state
 
   -- the feature f of the end e is tied to the cell c
   abbrev pub Ties : ℕ → ℕ → ℕ → ℕ → List (Cell K) → List (Option ℕ) → List (Cell K) → List (Option ℕ) → Bool → Type 0

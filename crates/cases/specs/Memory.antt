@@ -23,10 +23,10 @@ held slots ps n = record { slots = slots; pending = latest ps n }
 abbrev pub work_in : {K : Type 0} → ℕ → ℕ → List (Cell K) → List (Option ℕ) → List (ℕ × ℕ) → ℕ → Work K
 work_in used features cells slots ps n = record { heap = heap_in used features cells slots; pending = latest ps n }
 
--- one pair is joined, and so many are to be joined after; or it clashes
+-- one pair is joined, and so many are to be joined after; or it clashes, and the heap is as it was
 abbrev pub Pairs : {K : Type 0} → Meaning K → ℕ → ℕ × ℕ → Work K → (ℕ → Work K) → Option ℕ → Type 0
 Pairs m room p before after (Some n) = (n ≤ room) × (join_pair m room p before ≡ Some (after n))
-Pairs m room p before after None = join_pair m room p before ≡ None
+Pairs m room p before after None = (join_pair m room p before ≡ None) × ((n : ℕ) → (after n).heap ≡ before.heap)
 
 -- a heap comes of it, which is the one in memory; or a clash
 abbrev pub Joined : {K : Type 0} → Option (Heap K) → Heap K → Bool → Type 0

@@ -16,7 +16,7 @@
 #![tactic(auto)]
 
 pub mod case;
-pub mod store;
+mod store;
 
 pub use store::asks::{kind_at, leads_to};
 pub use store::opens::open;

@@ -1,8 +1,10 @@
 // The memory of a case: its cells and slots, what is read of them and written, and whether it is long enough for the case.
-ghost use Rattle.std.specs.Prelude.{◌≡◌, ◌+◌, ◌*◌, Ok, length};
+ghost use Rattle.std.specs.Prelude.{◌≡◌, ◌+◌, ◌*◌, ◌≤◌, Ok, length, nat_lt};
+ghost use Rattle.std.specs.List.{list_all};
 ghost use Rattle.joining.specs.Heap.{follow, refers_in, kind_in, slot_in, put_kind, put_refers, put_slot, put_new, emptied};
 ghost use Rattle.osf.specs.Calls.{short_for, too_short_for};
 ghost use Rattle.cases.specs.Memory.{Place, Slots};
+ghost use Rattle.cases.specs.Within.{content_below, copied, first_of};
 ghost use Rattle.cases.specs.Calls.{lent_to_ask, with_used};
 
 pub mod asks;
@@ -111,18 +113,64 @@ fn empty(slots: &mut [Option<usize>], features: usize, cell: usize)
     }
 }
 
-// Copies cells and slots over others, as many of each.
+// Whether all these cells refer to cells below a bound.
+fn refer_below<K>(cells: &[Cell<K>], bound: usize) -> bool
+    ensures { result ≡ list_all (λ c. nat_lt c.refers bound) cells.now }
+{
+    cells.iter().all(|cell| cell.refers < bound)
+}
+
+// Whether what is in a slot is below a bound.
+fn is_below(content: Option<usize>, bound: usize) -> bool
+    ensures { result ≡ content_below bound content }
+{
+    match content {
+        Some(cell) => cell < bound,
+        None => true,
+    }
+}
+
+// Whether all that is in these slots is.
+fn lead_below(slots: &[Option<usize>], bound: usize) -> bool
+    ensures { result ≡ list_all (content_below bound) slots.now }
+{
+    slots.iter().all(|slot| is_below(*slot, bound))
+}
+
+// How many cells to copy before a change that is to come to no more than so many, the first ones: these, where nothing leads out of
+// them; or all.
+fn to_copy<K>(cells: &[Cell<K>], slots: &[Option<usize>], features: usize, most: usize) -> usize
+    requires { length slots.now ≡ length cells.now * features }
+    ensures within { (result ≤ length cells.now) × (result * features ≤ length slots.now) }
+    ensures count { result ≡ copied most features cells.now slots.now }
+{
+    if most < cells.len()
+        && refer_below(&cells[..most], most)
+        && lead_below(&slots[..most * features], most)
+    {
+        most
+    } else {
+        cells.len()
+    }
+}
+
+// Copies the first cells, so many, and their slots over others.
 fn copy<K: Copy>(
     from_cells: &[Cell<K>],
     from_slots: &[Option<usize>],
     cells: &mut [Cell<K>],
     slots: &mut [Option<usize>],
+    count: usize,
+    features: usize,
 )
-    requires { (length from_cells.now ≡ length cells.old) × (length from_slots.now ≡ length slots.old) }
-    ensures { (cells.new ≡ from_cells.now) × (slots.new ≡ from_slots.now) }
+    requires cells { (count ≤ length from_cells.now) × (count ≤ length cells.old) }
+    requires slots { (count * features ≤ length from_slots.now) × (count * features ≤ length slots.old) }
+    ensures cells { cells.new ≡ first_of count from_cells.now cells.old }
+    ensures slots { slots.new ≡ first_of (count * features) from_slots.now slots.old }
 {
-    cells.copy_from_slice(from_cells);
-    slots.copy_from_slice(from_slots);
+    let rows = count * features;
+    cells[..count].copy_from_slice(&from_cells[..count]);
+    slots[..rows].copy_from_slice(&from_slots[..rows]);
 }
 
 // How many slots the case has; none where its cells or its slots do not lie in the memory whole.

@@ -76,6 +76,44 @@ fn two_cells_become_one(rt: HostRuntime) -> Result<(), Fail> {
     Ok(())
 }
 
+// A cell in use refers to one far past those in use, as no call leaves it. The rule narrows that one before it clashes, and all is as it
+// was.
+#[test]
+fn a_reference_past_those_in_use(rt: HostRuntime) -> Result<(), Fail> {
+    let order = shipped();
+    let heap = rt.alloc();
+    let mut memory = memory_for(heap, 0, 8, 4)?;
+    let mut case = begun(
+        &order,
+        heap,
+        &mut memory,
+        8,
+        b"any(paid=>by_dd,back=>returned)",
+    )?;
+    if let Some(paid) = memory.cells.get_mut(1) {
+        paid.refers = 7;
+    }
+    let cells = memory.cells.clone()?;
+    let slots = memory.slots.clone()?;
+    assert_eq!(rt;
+        matched(
+            &order,
+            heap,
+            &mut memory,
+            &mut case,
+            b"any(paid=>credit,back=>fee)",
+            0
+        )?,
+        Err(Refusal::Clash { statement: 5 })
+    );
+    assert_eq!(rt; case.used, 3);
+    assert!(rt; memory.cells.as_slice() == cells.as_slice());
+    assert!(rt; memory.slots.as_slice() == slots.as_slice());
+    assert_eq!(rt; led(&order, &memory, case, 0, PAID), Ok(Some(7)));
+    assert_eq!(rt; kind(&order, &memory, case, 1), Ok(0));
+    Ok(())
+}
+
 // A thing that leads to itself, and a rule that makes two such things one.
 #[test]
 fn a_cyclic_term(rt: HostRuntime) -> Result<(), Fail> {

@@ -4,6 +4,7 @@ ghost use Rattle.joining.specs.Heap.{refers_in, follow, slot_in, put_kind, put_r
 ghost use Rattle.joining.specs.Joining.{add_pair, carry_one as one_carried, carry as carried};
 ghost use Rattle.joining.specs.Joining.{join as joining};
 ghost use Rattle.cases.specs.Memory.{latest, held, heap_in, work_in, Pairs, Joined};
+ghost use Rattle.cases.specs.Within.{Within, Beyond};
 
 pub mod joins;
 pub mod steps;
@@ -131,7 +132,8 @@ fn join<O: Order>(
     second: usize,
 ) -> bool
     requires { length cells.old * features < length pending.old }
-    ensures { (used : ℕ) → Joined (joining (O.meaning order.now) first second (heap_in used features cells.old slots.old)) (heap_in used features cells.new slots.new) result }
+    ensures answer { (used : ℕ) → Joined (joining (O.meaning order.now) first second (heap_in used features cells.old slots.old)) (heap_in used features cells.new slots.new) result }
+    ensures beyond { (n : ℕ) → first < n → second < n → Within n features cells.old slots.old (O.meaning order.now).widest → Beyond n features cells.old slots.old cells.new slots.new }
 {
     let room = cells.len() * features + 1;
     pending[0] = (first, second);

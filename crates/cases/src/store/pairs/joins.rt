@@ -8,12 +8,12 @@ ghost use Rattle.cases.specs.Law.{LawIn};
 
 use super::join;
 use crate::case::Case;
-use crate::store::{copy, slots_to_change};
+use crate::store::{copy, slots_to_change, to_copy};
 use joining::cell::Cell;
 use orders::order::Order;
 use refusals::Refusal;
 
-// Joins two cells, or answers that they clash and leaves cells and slots as they were.
+// Joins two cells of those in use, or answers that they clash and leaves cells and slots as they were.
 fn join_or_restore<O: Order>(
     order: &O,
     features: usize,
@@ -22,17 +22,21 @@ fn join_or_restore<O: Order>(
     pending: &mut [(usize, usize)],
     spare_cells: &mut [Cell<O::Kind>],
     spare_slots: &mut [Option<usize>],
+    used: usize,
     first: usize,
     second: usize,
 ) -> bool
+    requires sizes { length slots.old ≡ length cells.old * features }
+    requires used { (first < used) × (second < used) }
     requires room { length cells.old * features < length pending.old }
     requires spare { (length spare_cells.old ≡ length cells.old) × (length spare_slots.old ≡ length slots.old) }
-    ensures { (used : ℕ) → JoinedOrBack (joining (O.meaning order.now) first second (heap_in used features cells.old slots.old)) (heap_in used features cells.old slots.old) (heap_in used features cells.new slots.new) result }
+    ensures { JoinedOrBack (joining (O.meaning order.now) first second (heap_in used features cells.old slots.old)) (heap_in used features cells.old slots.old) (heap_in used features cells.new slots.new) result }
 {
-    copy(cells, slots, spare_cells, spare_slots);
+    let count = to_copy(cells, slots, features, used);
+    copy(cells, slots, spare_cells, spare_slots, count, features);
     let joined = join(order, cells, slots, pending, features, first, second);
     if !joined {
-        copy(spare_cells, spare_slots, cells, slots);
+        copy(spare_cells, spare_slots, cells, slots, count, features);
     }
     joined
 }
@@ -81,6 +85,7 @@ pub fn join_cells<O: Order>(
                 pending,
                 &mut spare_cells[..case.cells],
                 &mut spare_slots[..size],
+                case.used,
                 first,
                 second,
             );

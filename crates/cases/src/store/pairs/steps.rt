@@ -1,9 +1,10 @@
 // What instructions find and write: the registers of a machine, and how far it has come.
-ghost use Rattle.std.specs.Prelude.{◌≡◌, ◌+◌, ◌*◌, ◌<◌, ◌≤◌, ◌^◌, suc, length, take, get_or, slice_index};
+ghost use Rattle.std.specs.Prelude.{◌≡◌, ℕ, false, ◌+◌, ◌*◌, ◌<◌, ◌≤◌, ◌^◌, suc, length, take, get_or, slice_index};
 ghost use Rattle.joining.specs.Heap.{slot_in, push as pushed};
 ghost use Rattle.instructions.specs.Steps.{set_place, write as written};
 ghost use Rattle.cases.specs.Memory.{heap_in};
 ghost use Rattle.cases.specs.Machines.{state_in, Narrows, Ties, Tests, Sets};
+ghost use Rattle.cases.specs.Within.{Within, Beyond};
 ghost use Rattle.cases.specs.Calls.{over};
 
 pub mod machine;
@@ -75,7 +76,8 @@ fn note(registers: &[usize], set: usize, places: &mut [usize])
 
 // Narrows an end to a kind: whether there is a common kind.
 fn narrow<O: Order>(order: &O, cells: &mut [Cell<O::Kind>], at: usize, kind_wanted: O::Kind) -> bool
-    ensures { Narrows (O.meaning order.now) at kind_wanted cells.old cells.new result }
+    ensures answer { Narrows (O.meaning order.now) at kind_wanted cells.old cells.new result }
+    ensures kept { result ≡ false → cells.new ≡ cells.old }
 {
     match order.common(kind(order, cells, at), kind_wanted) {
         Some(common) => {
@@ -98,7 +100,8 @@ fn tie<O: Order>(
     cell: usize,
 ) -> bool
     requires { length cells.old * features < length pending.old }
-    ensures { Ties (O.meaning order.now) features at feature cell cells.old slots.old cells.new slots.new result }
+    ensures answer { Ties (O.meaning order.now) features at feature cell cells.old slots.old cells.new slots.new result }
+    ensures beyond { (n : ℕ) → result ≡ false → at < n → feature < features → cell < n → Within n features cells.old slots.old (O.meaning order.now).widest → Beyond n features cells.old slots.old cells.new slots.new }
 {
     match slot(slots, features, at, feature) {
         Some(content) => join(order, cells, slots, pending, features, content, cell),

@@ -1,3 +1,4 @@
+use Rattle.std.proofs.Common.{refl}
 use Rattle.cases.specs.Memory.{held}
 use Rattle.cases.proofs.OnePair.{pair_same, pair_clash, pair_bound}
 use Rattle.cases.proofs.store.pairs.join_pair.Goals as goal
@@ -17,6 +18,7 @@ returns-in-Some g c used = (
 )
 
 pub returns-in-None : goal.returns-in-None
-returns-in-None g c used =
-    pair_clash _ _ _ _ _ (c.ends-first.ensures _) c.if-first-second.false
-    _ _ c.kind.ensures c.kind-2.ensures c.in-None.ensures
+returns-in-None g c used = (
+  pair_clash _ _ _ _ _ (c.ends-first.ensures _) c.if-first-second.false _ _ c.kind.ensures c.kind-2.ensures c.in-None.ensures,
+  λ n. refl,
+)

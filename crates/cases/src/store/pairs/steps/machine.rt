@@ -1,7 +1,9 @@
 // The machine that runs the codes of a term on cells in memory.
-ghost use Rattle.std.specs.Prelude.{◌≡◌, ◌+◌, ◌*◌, ◌<◌, ◌≤◌, ◌^◌, length, IfSome, IfOk};
+ghost use Rattle.std.specs.Prelude.{◌≡◌, ℕ, ◌+◌, ◌*◌, ◌<◌, ◌≤◌, ◌^◌, true, length, None, is_err, IfSome, IfOk};
 ghost use Rattle.instructions.specs.Steps.{step, present_in, entered, run as ran};
-ghost use Rattle.cases.specs.Machines.{state_in, machine_in, Sets, Steps, AllSet, Runs};
+ghost use Rattle.cases.specs.Machines.{state_in, machine_in, Sets, Steps, AllSet, Runs, StateWithin, RunsWithin};
+ghost use Rattle.cases.specs.Pushing.{Uses};
+ghost use Rattle.cases.specs.Within.{Beyond};
 
 pub mod limits;
 
@@ -29,6 +31,7 @@ fn advance<O: Order>(
     requires used { progress.used + 1 < 2 ^ 64 }
     requires at { progress.at + 1 < 2 ^ 64 }
     ensures bounds { IfSome result (λ p. (p.set ≤ length registers.new) × (p.used ≤ progress.used + 1)) }
+    ensures beyond { (n : ℕ) → result ≡ None → Uses features instruction → StateWithin (O.meaning order.now) n (state_in features cells.old slots.old registers.old progress) → Beyond n features cells.old slots.old cells.new slots.new }
     ensures machine { Steps (step (O.meaning order.now) kinds.now instruction (machine_in features cells.old slots.old registers.old progress)) (machine_in features cells.new slots.new registers.new) result }
 {
     match (progress.mode, instruction) {
@@ -137,6 +140,7 @@ fn run<O: Order>(
     requires used { begin.used + (length reads.now + length writes.now) < 2 ^ 64 }
     ensures set { IfOk result (λ p. p.set ≤ length registers.new) }
     ensures answer { Runs (ran (O.meaning order.now) kinds.now reads.now writes.now (length reads.now + length writes.now) (machine_in features cells.old slots.old registers.old begin)) (state_in features cells.new slots.new registers.new) result }
+    ensures beyond { (n : ℕ) → is_err result ≡ true → RunsWithin (O.meaning order.now) n reads.now writes.now (machine_in features cells.old slots.old registers.old begin) → Beyond n features cells.old slots.old cells.new slots.new }
 {
     let mut progress = begin;
     let turns = reads.len() + writes.len();

@@ -20,14 +20,14 @@ returns-then-not-both_in_use g c =
 pub returns-then-joined : goal.returns-then-joined
 returns-then-joined g c =
     let m = g.O.Order.meaning c.args.order.now in
-    let whole = joined_whole m _ c.args.case c.args.first c.args.second c.args.cells.now c.args.slots.now refl refl c.in-Some.ensures.1 (not-true _ (sym c.both_in_use.ensures ∙ c.if-not-both_in_use.false)) c.in-Some.size c.in-Some.ensures.0 c.join_or_restore-joined.new.cells c.join_or_restore-joined.new.slots c.join_or_restore-joined.auto.cells c.join_or_restore-joined.auto.slots (c.if-joined.ensures c.args.case.used) in
-    let x = joined m _ c.args.case c.args.first c.args.second c.args.cells.now c.args.slots.now refl refl c.in-Some.ensures.1 (not-true _ (sym c.both_in_use.ensures ∙ c.if-not-both_in_use.false)) c.in-Some.size c.in-Some.ensures.0 c.join_or_restore-joined.new.cells c.join_or_restore-joined.new.slots c.join_or_restore-joined.auto.cells c.join_or_restore-joined.auto.slots (c.if-joined.ensures c.args.case.used) in
+    let whole = joined_whole m _ c.args.case c.args.first c.args.second c.args.cells.now c.args.slots.now refl refl c.in-Some.ensures.1 (not-true _ (sym c.both_in_use.ensures ∙ c.if-not-both_in_use.false)) c.in-Some.size c.in-Some.ensures.0 c.join_or_restore-joined.new.cells c.join_or_restore-joined.new.slots c.join_or_restore-joined.auto.cells c.join_or_restore-joined.auto.slots (c.if-joined.ensures) in
+    let x = joined m _ c.args.case c.args.first c.args.second c.args.cells.now c.args.slots.now refl refl c.in-Some.ensures.1 (not-true _ (sym c.both_in_use.ensures ∙ c.if-not-both_in_use.false)) c.in-Some.size c.in-Some.ensures.0 c.join_or_restore-joined.new.cells c.join_or_restore-joined.new.slots c.join_or_restore-joined.auto.cells c.join_or_restore-joined.auto.slots (c.if-joined.ensures) in
     record { answer = x.0; kept = (x.1, x.2); refused = λ e. absurd (false≢true e); law = law_joined (g.O.Order.meaning c.args.order.now) _ c.args.case c.args.first c.args.second c.args.cells.now c.args.slots.now _ whole }
 
 pub returns-else-joined : goal.returns-else-joined
 returns-else-joined g c =
     let m = g.O.Order.meaning c.args.order.now in
-    let (clash, back) = c.if-joined.ensures c.args.case.used in
+    let (clash, back) = c.if-joined.ensures in
     let e = in_use m _ c.args.case c.args.first c.args.second c.args.cells.now c.args.slots.now refl refl c.in-Some.ensures.1 (not-true _ (sym c.both_in_use.ensures ∙ c.if-not-both_in_use.false)) c.in-Some.size c.in-Some.ensures.0 _ clash in
     let cells = part_back _ _ _ (ap (λ h. h.cells) back) in
     let slots = part_back _ _ _ (ap (λ h. h.slots) back) in

@@ -1,5 +1,5 @@
 // Whether a case, its memory and a place list suffice for a term: the reasons to refuse a call before it begins, in their order.
-ghost use Rattle.std.specs.Prelude.{◌≡◌, ◌+◌, ◌<◌, ◌||◌, not, nat_lt};
+ghost use Rattle.std.specs.Prelude.{◌≡◌, ◌+◌, ◌<◌, ◌||◌, true, not, nat_lt, IfOk};
 ghost use Rattle.osf.specs.Calls.{features_below as all_below};
 ghost use Rattle.cases.specs.Limits.{is_below, may_enter, may_match};
 
@@ -94,7 +94,8 @@ fn to_match<K: Copy>(
     places: usize,
 ) -> Result<usize, Refusal>
     requires { 0 < variables }
-    ensures { result ≡ may_match (record { cells = cells; slots = slots; pending = pending; spare_cells = spare_cells; spare_slots = spare_slots }) case statements.now variables cell places }
+    ensures fits { IfOk result (λ size. (cell < case.used) × (all_below case.features statements.now ≡ true)) }
+    ensures answer { result ≡ may_match (record { cells = cells; slots = slots; pending = pending; spare_cells = spare_cells; spare_slots = spare_slots }) case statements.now variables cell places }
 {
     match slots_to_change(case, cells, slots, pending, spare_cells, spare_slots) {
         Some(size) => {

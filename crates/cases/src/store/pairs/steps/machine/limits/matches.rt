@@ -1,12 +1,14 @@
 // Matching a rule at a cell, which is that of its root.
-ghost use Rattle.std.specs.Prelude.{◌≡◌, ◌+◌, ◌*◌, ◌<◌, ◌≤◌, ◌∷◌, [], true, length, take, is_err, IfOk};
+ghost use Rattle.std.specs.Prelude.{◌≡◌, ℕ, ◌+◌, ◌*◌, ◌<◌, ◌≤◌, ◌∷◌, [], true, length, take, slice_index, is_err, IfOk};
 ghost use Rattle.grammar.specs.Lawful.{depths};
 ghost use Rattle.instructions.specs.Law.{most_turns, match_at};
 ghost use Rattle.instructions.specs.Steps.{run as ran};
 ghost use Rattle.instructions.specs.declared.instruction.Mode.TheVariants.{Read};
 ghost use Rattle.compiler.specs.Rules.{statements_of};
 ghost use Rattle.osf.specs.Runs.{match_rule as matched};
+ghost use Rattle.osf.specs.Calls.{features_below as all_below};
 ghost use Rattle.cases.specs.Memory.{heap_in};
+ghost use Rattle.cases.specs.Pushing.{Codes, Room};
 ghost use Rattle.cases.specs.Machines.{state_in, machine_in, AllSet, Runs};
 ghost use Rattle.cases.specs.Calls.{lent, heap_of, match_of, Kept};
 ghost use Rattle.cases.specs.Terms.{Told, WrittenOrBack};
@@ -16,7 +18,7 @@ use super::to_match;
 use crate::case::Case;
 use crate::store::pairs::steps::machine::run;
 use crate::store::pairs::steps::{Progress, note};
-use crate::store::{accept, copy};
+use crate::store::{accept, copy, to_copy};
 use compiler::rule::Rule;
 use grammar::statement::MOST_VARIABLES;
 use instructions::instruction::{Instruction, Mode};
@@ -24,7 +26,8 @@ use joining::cell::Cell;
 use orders::order::Order;
 use refusals::Refusal;
 
-// Runs a rule's codes, or answers the number of the statement that clashes and leaves cells and slots as they were.
+// Runs a rule's codes, or answers the number of the statement that clashes and leaves cells and slots as they were. Where nothing leads out
+// of the first `most` cells, the codes come to no others.
 fn run_or_restore<O: Order>(
     order: &O,
     reads: &[Instruction],
@@ -37,24 +40,30 @@ fn run_or_restore<O: Order>(
     spare_cells: &mut [Cell<O::Kind>],
     spare_slots: &mut [Option<usize>],
     registers: &mut [usize],
+    most: usize,
     begin: Progress,
 ) -> Result<Progress, usize>
+    requires sizes { length slots.old ≡ length cells.old * features }
     requires room { length cells.old * features < length pending.old }
     requires spare { (length spare_cells.old ≡ length cells.old) × (length spare_slots.old ≡ length slots.old) }
     requires set { begin.set ≤ length registers.old }
     requires reads { AllSet (length registers.old) reads.now }
     requires writes { AllSet (length registers.old) writes.now }
     requires used { begin.used ≤ length cells.old }
+    requires codes { Codes reads.now writes.now features }
+    requires most { Room reads.now writes.now most begin.mode begin.at begin.used }
+    requires places { (r : ℕ) → slice_index (take begin.set registers.old) r < most }
     ensures set { IfOk result (λ p. p.set ≤ length registers.new) }
     ensures answer { Runs (ran (O.meaning order.now) kinds.now reads.now writes.now (length reads.now + length writes.now) (machine_in features cells.old slots.old registers.old begin)) (state_in features cells.new slots.new registers.new) result }
     ensures back { is_err result ≡ true → (cells.new ≡ cells.old) × (slots.new ≡ slots.old) }
 {
-    copy(cells, slots, spare_cells, spare_slots);
+    let count = to_copy(cells, slots, features, most);
+    copy(cells, slots, spare_cells, spare_slots, count, features);
     let outcome = run(
         order, reads, writes, kinds, features, cells, slots, pending, registers, begin,
     );
     if outcome.is_err() {
-        copy(spare_cells, spare_slots, cells, slots);
+        copy(spare_cells, spare_slots, cells, slots, count, features);
     }
     outcome
 }
@@ -109,13 +118,17 @@ fn write<O: Order>(
     places: &mut [usize],
     used: usize,
 ) -> Result<usize, usize>
+    requires sizes { length slots.old ≡ length cells.old * features }
     requires room { length cells.old * features < length pending.old }
     requires spare { (length spare_cells.old ≡ length cells.old) × (length spare_slots.old ≡ length slots.old) }
     requires used { used ≤ length cells.old }
+    requires cell { cell < used }
+    requires features { all_below features (statements_of rule.now) ≡ true }
     requires registers { length registers.old ≡ length (depths (statements_of rule.now)) }
     requires places { length (depths (statements_of rule.now)) ≤ length places.old }
     ensures { WrittenOrBack features places.old (match_at (O.meaning order.now) (statements_of rule.now) (most_turns (statements_of rule.now)) (heap_in used features cells.old slots.old) cell) cells.old slots.old cells.new slots.new places.new result }
 {
+    let most = used + (registers.len() - 1);
     let begin = root(registers, cell, used);
     let outcome = run_or_restore(
         order,
@@ -129,6 +142,7 @@ fn write<O: Order>(
         spare_cells,
         spare_slots,
         registers,
+        most,
         begin,
     );
     tell(outcome, registers, places)
@@ -148,9 +162,12 @@ fn write_anew<O: Order>(
     places: &mut [usize],
     used: usize,
 ) -> Result<usize, usize>
+    requires sizes { length slots.old ≡ length cells.old * features }
     requires room { length cells.old * features < length pending.old }
     requires spare { (length spare_cells.old ≡ length cells.old) × (length spare_slots.old ≡ length slots.old) }
     requires used { used ≤ length cells.old }
+    requires cell { cell < used }
+    requires features { all_below features (statements_of rule.now) ≡ true }
     requires places { length (depths (statements_of rule.now)) ≤ length places.old }
     ensures { WrittenOrBack features places.old (match_at (O.meaning order.now) (statements_of rule.now) (most_turns (statements_of rule.now)) (heap_in used features cells.old slots.old) cell) cells.old slots.old cells.new slots.new places.new result }
 {
