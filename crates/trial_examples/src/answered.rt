@@ -8,7 +8,8 @@ use std::test::Fail;
 // Forty pounds that were sent back in parts: no payment that came in, but a return of some earlier one.
 #[test]
 fn with_amounts(rt: HostRuntime) -> Result<(), Fail> {
-    let file = b"2\ncredit any\ndebit any\n1\nback\n1\ndebit/-4000..-4000(back=>debit/-4000..-1)\n2\nany/1..9\ndebit/-5000..-1(back=>any/-4000..0)\n";
+    let file =
+        b"2\ncredit any\ndebit any\n1\nback\n1\ndebit/-4000..-4000(back=>debit/-4000..-1)\n2\nany/1..9\ndebit/-5000..-1(back=>any/-4000..0)\n";
     let text = answer::<_, Pair<List, Bands>>(file.as_slice(), rt.alloc())?;
     assert!(rt; text.as_slice() == b"1 1 no 1\n1 2 yes debit/-4000..-4000\n".as_slice());
     Ok(())
