@@ -1,4 +1,5 @@
--- A shelf of terms, and what reading a line into the next one of them gives. A middle layer: no contract of a public call cites it.
+-- A shelf of terms, and what reading a line into the next one of them gives. A middle layer: of its words the contract of a public call
+-- cites `Empty` alone, for memory that is taken.
 use Rattle.std.specs.Prelude.{◌≡◌, ℕ, ◌+◌, ◌<◌, List, map, take, Ok, Err, Result, replicate, vec_items}
 use Rattle.refusals.specs.declared.Refusal.{Refusal}
 use Rattle.orders.specs.Texts.{Texts}
