@@ -2,13 +2,14 @@
 use Rattle.std.proofs.Common.{◌≡◌, ℕ, ◌<◌, true, false, eqb, List, [], ◌∷◌, ◌++◌, length, Some, None, Option, refl, ap, ◌∙◌, inl, inr, arith}
 use Rattle.std.specs.List.{AllByRecursion}
 use Rattle.std.proofs.lemmas.Bool.{and_parts, and_from, both_ways, cases_Bool, eqb-true, cond-true, cond-false}
+use Rattle.std.proofs.lemmas.Option.{none-some}
 use Rattle.declarations.specs.declared.line.Part.{Part}
 use Rattle.declarations.specs.declared.line.Part.TheVariants.{Start, Name, Blank, Wider}
 use Rattle.declarations.specs.Names.{letter, name_byte, all_name, is_name}
 use Rattle.declarations.specs.Lines.{tail, Line}
 use Rattle.declarations.specs.Scanner.{next_part, ends}
 use Rattle.scanning.specs.Scanner.{runs, RunsOut, Decides}
-use Rattle.scanning.proofs.Runs.{onward, runs-step, none-some, after_first}
+use Rattle.scanning.proofs.Runs.{onward, runs-step, after_first}
 
 -- what is still to come from a place in the line, to its lawful end
 abbrev Rest : Part → List ℕ → Type 0
@@ -69,7 +70,7 @@ rest Start (b ∷ bs) e =
       | inl t ↦
           let (w, ws, a, all, some, is) = rest Name bs (after_first next_part Start b bs (Some Name) Wider (cond-true _ (Some Name) None t) e) in
           record { name = b ∷ w; wider = ws; named = and_from _ _ t a; each = all; some = some; whole = ap (λ x. b ∷ x) is }
-      | inr f ↦ absurd (none-some next_part Wider (after_first next_part Start b bs None Wider (cond-false _ (Some Name) None f) e))
+      | inr f ↦ absurd (none-some Wider (after_first next_part Start b bs None Wider (cond-false _ (Some Name) None f) e))
     ]
 rest Name (b ∷ bs) e =
     elim (cases_Bool (name_byte b)) [
@@ -81,7 +82,7 @@ rest Name (b ∷ bs) e =
             | inl s ↦
                 let (w, ws, n, all, is) = rest Blank bs (after_first next_part Name b bs (Some Blank) Wider (cond-false _ (Some Name) _ f ∙ cond-true _ (Some Blank) None s) e) in
                 ([], w ∷ ws, refl, (n, all), omega arith, ap (λ x. x ∷ bs) (eqb-true b 32 s) ∙ ap (λ x. 32 ∷ x) is)
-            | inr s ↦ absurd (none-some next_part Wider (after_first next_part Name b bs None Wider (cond-false _ (Some Name) _ f ∙ cond-false _ (Some Blank) None s) e))
+            | inr s ↦ absurd (none-some Wider (after_first next_part Name b bs None Wider (cond-false _ (Some Name) _ f ∙ cond-false _ (Some Blank) None s) e))
           ]
     ]
 rest Blank (b ∷ bs) e =
@@ -89,7 +90,7 @@ rest Blank (b ∷ bs) e =
       | inl t ↦
           let (w, ws, a, all, is) = rest Wider bs (after_first next_part Blank b bs (Some Wider) Wider (cond-true _ (Some Wider) None t) e) in
           (b ∷ w, ws, and_from _ _ t a, all, ap (λ x. b ∷ x) is)
-      | inr f ↦ absurd (none-some next_part Wider (after_first next_part Blank b bs None Wider (cond-false _ (Some Wider) None f) e))
+      | inr f ↦ absurd (none-some Wider (after_first next_part Blank b bs None Wider (cond-false _ (Some Wider) None f) e))
     ]
 rest Wider (b ∷ bs) e =
     elim (cases_Bool (name_byte b)) [
@@ -101,7 +102,7 @@ rest Wider (b ∷ bs) e =
             | inl s ↦
                 let (w, ws, n, all, is) = rest Blank bs (after_first next_part Wider b bs (Some Blank) Wider (cond-false _ (Some Wider) _ f ∙ cond-true _ (Some Blank) None s) e) in
                 ([], w ∷ ws, refl, (n, all), ap (λ x. x ∷ bs) (eqb-true b 32 s) ∙ ap (λ x. 32 ∷ x) is)
-            | inr s ↦ absurd (none-some next_part Wider (after_first next_part Wider b bs None Wider (cond-false _ (Some Wider) _ f ∙ cond-false _ (Some Blank) None s) e))
+            | inr s ↦ absurd (none-some Wider (after_first next_part Wider b bs None Wider (cond-false _ (Some Wider) _ f ∙ cond-false _ (Some Blank) None s) e))
           ]
     ]
 

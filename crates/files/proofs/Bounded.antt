@@ -9,6 +9,7 @@ use Rattle.grammar.specs.declared.statement.Statement.TheVariants.{Kind}
 use Rattle.grammar.specs.Trees.{Tree, Items, bare, described, none, item, label, written, listing, more}
 use Rattle.grammar.specs.Told.{Told, nothing, say, mark, introduce, subject, tell, tell_items, told, first}
 use Rattle.grammar.specs.Lines.{Line, WrongKind}
+use Rattle.grammar.proofs.Counting.{item-length}
 
 abbrev pub AtMost : ℕ → Option ℕ → Type 0
 AtMost b None = Unit {0}
@@ -32,9 +33,6 @@ say_bounded b s p t l h = record { wrong = h.wrong; said = All-append _ t.said _
 introduce_bounded : (b : ℕ) (o : Option (List ℕ)) (p : ℕ) (t : Told) → p ≤ b → Bounded b t → Bounded b (introduce o p t)
 introduce_bounded b (Some n) p t l h = record { wrong = first_bounded b p t.wrong _ l h.wrong; said = h.said }
 introduce_bounded b None p t l h = record { wrong = h.wrong; said = h.said }
-
-item-length : (f w m : List ℕ) → length (f ++ 61 ∷ 62 ∷ (w ++ m)) ≡ length f + 2 + length w + length m
-item-length f w m = omega (arith, length-append f (61 ∷ 62 ∷ (w ++ m)), length-append w m)
 
 mutual
   unfolding tell written

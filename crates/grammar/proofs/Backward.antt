@@ -1,12 +1,12 @@
 -- From what is still to come after a byte, what is still to come before it.
 use Rattle.std.proofs.Common.{◌≡◌, ℕ, suc, eqb, List, [], ◌∷◌, length, Some, None, sym, refl, ap, subst, inl, inr}
 use Rattle.std.proofs.lemmas.Bool.{and_from}
+use Rattle.std.proofs.lemmas.Option.{none-some}
 use Rattle.declarations.specs.Names.{letter, name_byte}
 use Rattle.orders.specs.Texts.{text_byte}
 use Rattle.grammar.specs.Words.{capital, name_letter, all_by}
 use Rattle.grammar.specs.Trees.{none, item, written, Limits, LawfulTree}
 use Rattle.grammar.specs.Scanner.{begin, in_name, colon, in_kind, comma, in_feature, equals, closed, State, state, kept_if, closing, step}
-use Rattle.grammar.proofs.Scanning.{none-some}
 use Rattle.grammar.proofs.Remaining.{BeforeTerm, Rest, kept_is, by_cond, first_is, is_at, back_item, back_closing, term_of_text, term_of_name, one_more, one_first, no_more}
 
 pub back : (L : Limits) (s : State) (b : ℕ) (bs : List ℕ) (q : State) → step L s b ≡ Some q → Rest L q bs → Rest L s (b ∷ bs)

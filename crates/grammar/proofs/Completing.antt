@@ -2,11 +2,13 @@
 use Rattle.std.proofs.Common.{◌≡◌, ℕ, zero, suc, ◌+◌, true, false, eqb, List, [], ◌∷◌, ◌++◌, Some, None, Option, sym, refl, ap, ◌∙◌, subst, inl, arith}
 use Rattle.std.proofs.lemmas.List.{append-nil}
 use Rattle.std.proofs.lemmas.Bool.{both_ways, cond-true, eqb-true}
+use Rattle.std.proofs.lemmas.Option.{none-some}
 use Rattle.refusals.specs.Places.{GoesOn}
 use Rattle.grammar.specs.Words.{all_by}
 use Rattle.grammar.specs.Trees.{none, written, Limits, LawfulTree, Written}
 use Rattle.grammar.specs.Scanner.{Part, begin, in_name, colon, in_kind, comma, in_feature, equals, closed, State, state, start, step, runs, accepting}
-use Rattle.grammar.proofs.Scanning.{none-some, runs_nil, runs-first, runs_join}
+use Rattle.grammar.proofs.Scanning.{runs-first, runs_join}
+use Rattle.scanning.proofs.Runs.{runs_none}
 use Rattle.grammar.proofs.Walking.{ended, at_close, ended_accepts}
 use Rattle.grammar.proofs.Remaining.{Tail, Rest}
 use Rattle.grammar.proofs.Backward.{back}
@@ -35,7 +37,7 @@ module _ (L : Limits) where
   rest : (s : State) (bs : List ℕ) → Accepted L s bs → Rest L s bs
   rest s [] h =
       let (q, e, a) = h in
-      let same : Some s ≡ Some q = sym (runs_nil L s) ∙ e in
+      let same : Some s ≡ Some q = sym (runs_none (step L) s) ∙ e in
       let is : q ≡ s = cc in
       at_end s (subst (λ x. accepting x ≡ true) is a)
   rest s (b ∷ bs) h = by_result (step L s b) refl (λ p. rest p bs)
@@ -51,7 +53,7 @@ module _ (L : Limits) where
 
   -- every list that is open can be closed
   close_all : (d : ℕ) (p : Part) → ended p ≡ true → (bs : List ℕ) × Accepted L (state p d) bs
-  close_all zero p e = ([], (state p 0, runs_nil L (state p 0), ended_accepts p e))
+  close_all zero p e = ([], (state p 0, runs_none (step L) (state p 0), ended_accepts p e))
   close_all (suc d) p e =
       let (bs, (q, h, a)) = close_all d closed refl in
       (41 ∷ bs, (q, runs-first L (state p (suc d)) 41 bs (Some (state closed d)) (at_close L p d e) ∙ h, a))

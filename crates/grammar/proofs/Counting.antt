@@ -24,7 +24,7 @@ word_some : (first other : ℕ → Bool) (w : List ℕ) → is_word first other 
 word_some first other [] h = absurd (both_ways false refl h)
 word_some first other (b ∷ bs) h = omega arith
 
-item-length : (f w m : List ℕ) → length (f ++ 61 ∷ 62 ∷ (w ++ m)) ≡ length f + 2 + length w + length m
+pub item-length : (f w m : List ℕ) → length (f ++ 61 ∷ 62 ∷ (w ++ m)) ≡ length f + 2 + length w + length m
 item-length f w m = omega (arith, length-append f (61 ∷ 62 ∷ (w ++ m)), length-append w m)
 
 mutual

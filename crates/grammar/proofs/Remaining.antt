@@ -2,12 +2,12 @@
 use Rattle.std.proofs.Common.{◌≡◌, ℕ, zero, suc, ◌+◌, Bool, true, false, cond, eqb, ◌⊎◌, List, [], ◌∷◌, ◌++◌, length, Some, None, Option, sym, refl, ap, ◌∙◌, subst, inl, inr, arith}
 use Rattle.std.proofs.lemmas.List.{append_assoc}
 use Rattle.std.proofs.lemmas.Bool.{eqb-true}
+use Rattle.std.proofs.lemmas.Option.{none-some}
 use Rattle.declarations.specs.Names.{name_byte}
 use Rattle.orders.specs.Texts.{text_byte}
 use Rattle.grammar.specs.Words.{name_letter, all_by, is_variable, is_feature, is_text}
 use Rattle.grammar.specs.Trees.{Tree, Items, bare, described, none, item, written, listing, more, Limits, LawfulTree, LawfulList, LawfulItems}
 use Rattle.grammar.specs.Scanner.{begin, in_name, colon, in_kind, comma, in_feature, equals, closed, State, state, kept_if, closing}
-use Rattle.grammar.proofs.Scanning.{none-some}
 
 -- what is still to come after a whole term, where d lists are open
 abbrev pub Tail : Limits → ℕ → List ℕ → Type 0

@@ -1,63 +1,31 @@
 -- Going over bytes one by one: parts of a run, words, and what the limits leave.
 use Rattle.std.proofs.Common.{◌≡◌, ℕ, suc, ◌+◌, ◌<◌, ◌≤◌, Bool, true, false, cond, eqb, List, [], ◌∷◌, ◌++◌, length, get_or, take, drop, Some, None, Option, sym, refl, ap, ◌∙◌, arith}
-use Rattle.std.proofs.lemmas.List.{take_more, take-append-drop, take-take}
+use Rattle.std.proofs.lemmas.List.{take-append-drop, take-take}
 use Rattle.std.proofs.lemmas.Bool.{and_parts, cond-true, leb-true, le-leb}
+use Rattle.std.proofs.lemmas.Option.{none-some}
 use Rattle.declarations.specs.Names.{name_byte}
 use Rattle.orders.specs.Texts.{text_byte}
 use Rattle.grammar.specs.Words.{name_letter, all_by}
+use Rattle.scanning.proofs.Runs as Runs
+use Rattle.scanning.proofs.Runs.{onward, runs-step, runs_none, runs_append}
 use Rattle.grammar.specs.Trees.{Limits, no_limits, limits}
 use Rattle.grammar.specs.Scanner.{Part, begin, in_name, colon, in_kind, comma, in_feature, equals, closed, State, state, start, kept_if, step, runs}
 
--- from where a run has led, if it has led anywhere
-abbrev pub onward : Limits → Option State → List ℕ → Option State
-onward L (Some s) bs = runs L s bs
-onward L None bs = None
-
-pub none-some : (s : State) → ◌≡◌ {A = Option State} None (Some s) → ⊥
-none-some s e = let z : ◌≡◌ {A = ℕ} 0 1 = cc in omega arith
-
-pub runs-step : (L : Limits) (s : State) (b : ℕ) (bs : List ℕ) → runs L s (b ∷ bs) ≡ onward L (step L s b) bs
-unfolding runs
-runs-step L s b bs = by_result (step L s b)
-  where
-    by_result : (o : Option State) → (elim o [ Some q ↦ runs L q bs | None ↦ None ]) ≡ onward L o bs
-    by_result (Some q) = refl
-    by_result None = refl
-
-pub runs_nil : (L : Limits) (s : State) → runs L s [] ≡ Some s
-unfolding runs
-runs_nil L s = refl
-
 -- one byte first
-pub runs-first : (L : Limits) (s : State) (b : ℕ) (bs : List ℕ) (o : Option State) → step L s b ≡ o → runs L s (b ∷ bs) ≡ onward L o bs
-runs-first L s b bs o e = runs-step L s b bs ∙ ap (λ x. onward L x bs) e
-
-pub runs_append : (L : Limits) (s : State) (xs ys : List ℕ) → runs L s (xs ++ ys) ≡ onward L (runs L s xs) ys
-runs_append L s [] ys = ap (λ o. onward L o ys) (sym (runs_nil L s))
-runs_append L s (b ∷ bs) ys =
-    runs-step L s b (bs ++ ys) ∙ by_result (step L s b) (λ q. runs_append L q bs ys) ∙ ap (λ o. onward L o ys) (sym (runs-step L s b bs))
-  where
-    by_result : (o : Option State) → ((q : State) → runs L q (bs ++ ys) ≡ onward L (runs L q bs) ys) → onward L o (bs ++ ys) ≡ onward L (onward L o bs) ys
-    by_result (Some q) h = h q
-    by_result None h = refl
+pub runs-first : (L : Limits) (s : State) (b : ℕ) (bs : List ℕ) (o : Option State) → step L s b ≡ o → runs L s (b ∷ bs) ≡ onward (step L) o bs
+runs-first L s b bs o e = runs-step (step L) s b bs ∙ ap (λ x. onward (step L) x bs) e
 
 -- one run after another
 pub runs_join : (L : Limits) (s : State) (xs ys : List ℕ) (q : State) (o : Option State) → runs L s xs ≡ Some q → runs L q ys ≡ o → runs L s (xs ++ ys) ≡ o
-runs_join L s xs ys q o e h = runs_append L s xs ys ∙ ap (λ x. onward L x ys) e ∙ h
-
-onward_nil : (L : Limits) (o : Option State) → onward L o [] ≡ o
-onward_nil L (Some s) = runs_nil L s
-onward_nil L None = refl
+runs_join L s xs ys q o e h = runs_append (step L) s xs ys ∙ ap (λ x. onward (step L) x ys) e ∙ h
 
 -- one byte more
 pub runs-more : (L : Limits) (line : List ℕ) (i : ℕ) (s : State) (o : Option State) → i < length line
     → runs L start (take i line) ≡ Some s → step L s (get_or line i 0) ≡ o → runs L start (take (i + 1) line) ≡ o
-runs-more L line i s o l e n =
-    ap (runs L start) (take_more line i 0 l)
-    ∙ runs_join L start (take i line) (get_or line i 0 ∷ []) s o e (runs-first L s (get_or line i 0) [] o n ∙ onward_nil L o)
+runs-more L line i s o = Runs.runs-more (step L) start s o line i
 
-pub runs_none : (L : Limits) (line : List ℕ) → runs L start (take 0 line) ≡ Some start
-runs_none L line = runs_nil L start
+pub runs_start : (L : Limits) (line : List ℕ) → runs L start (take 0 line) ≡ Some start
+runs_start L line = runs_none (step L) start
 
 -- a run that leads somewhere has led somewhere before
 pub runs-front : (L : Limits) (s : State) (xs ys : List ℕ) (q : State) → runs L s (xs ++ ys) ≡ Some q → (p : State) × (runs L s xs ≡ Some p)
@@ -65,7 +33,7 @@ runs-front L s xs ys q e = by_result (runs L s xs) refl
   where
     by_result : (o : Option State) → runs L s xs ≡ o → (p : State) × (runs L s xs ≡ Some p)
     by_result (Some p) h = (p, h)
-    by_result None h = absurd (none-some q (sym (runs_append L s xs ys ∙ ap (λ x. onward L x ys) h) ∙ e))
+    by_result None h = absurd (none-some q (sym (runs_append (step L) s xs ys ∙ ap (λ x. onward (step L) x ys) h) ∙ e))
 
 take_split : (line : List ℕ) (m n : ℕ) → m ≤ n → take n line ≡ take m line ++ drop m (take n line)
 take_split line m n l = sym (take-append-drop m (take n line)) ∙ ap (λ x. x ++ drop m (take n line)) (take-take m n line l)
@@ -76,8 +44,8 @@ runs_earlier L line m n q l e = runs-front L start (take m line) (drop m (take n
 
 pub runs_later : (L : Limits) (line : List ℕ) (m n : ℕ) → m ≤ n → runs L start (take m line) ≡ None → runs L start (take n line) ≡ None
 runs_later L line m n l e =
-    ap (runs L start) (take_split line m n l) ∙ runs_append L start (take m line) (drop m (take n line))
-    ∙ ap (λ x. onward L x (drop m (take n line))) e
+    ap (runs L start) (take_split line m n l) ∙ runs_append (step L) start (take m line) (drop m (take n line))
+    ∙ ap (λ x. onward (step L) x (drop m (take n line))) e
 
 -- what goes on within the limits goes on without
 unkept : (c b : Bool) (x q : State) (o : Option State) → cond c (kept_if b x) o ≡ Some q → cond c (Some x) o ≡ Some q
@@ -101,7 +69,7 @@ unlimited_step (state equals d) b q e = e
 unlimited_step (state closed d) b q e = e
 
 pub unlimited : (s : State) (bs : List ℕ) (q : State) → runs limits s bs ≡ Some q → runs no_limits s bs ≡ Some q
-unlimited s [] q e = runs_nil no_limits s ∙ sym (runs_nil limits s) ∙ e
+unlimited s [] q e = runs_none (step no_limits) s ∙ sym (runs_none (step limits) s) ∙ e
 unlimited s (b ∷ bs) q e = by_result (step limits s b) refl (λ p. unlimited p bs q)
   where
     by_result : (o : Option State) → step limits s b ≡ o → ((p : State) → runs limits p bs ≡ Some q → runs no_limits p bs ≡ Some q)
@@ -127,7 +95,7 @@ module _ (L : Limits) (down : Down L) where
       → (n : ℕ) (w : List ℕ) → all_by more w ≡ true → L.word (n + length w) ≡ true
       → runs L (state (part n) d) w ≡ Some (state (part (n + length w)) d)
   unfolding all_by
-  counted part more d one n [] a f = runs_nil L (state (part n) d) ∙ ap (λ k. Some (state (part k) d)) (omega arith)
+  counted part more d one n [] a f = runs_none (step L) (state (part n) d) ∙ ap (λ k. Some (state (part k) d)) (omega arith)
   counted part more d one n (b ∷ w) a f =
       let (h, t) = and_parts (more b) _ a in
       let same : suc n + length w ≡ n + suc (length w) = omega arith in
@@ -144,7 +112,7 @@ module _ (L : Limits) (down : Down L) where
 
 pub run_kind : (L : Limits) (d : ℕ) (w : List ℕ) → all_by text_byte w ≡ true → runs L (state in_kind d) w ≡ Some (state in_kind d)
 unfolding all_by
-run_kind L d [] a = runs_nil L (state in_kind d)
+run_kind L d [] a = runs_none (step L) (state in_kind d)
 run_kind L d (b ∷ w) a =
     let (h, t) = and_parts (text_byte b) _ a in
     runs-first L (state in_kind d) b w (Some (state in_kind d)) (cond-true _ _ _ h) ∙ run_kind L d w t

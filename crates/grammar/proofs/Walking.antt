@@ -3,13 +3,15 @@ use Rattle.std.proofs.Common.{◌≡◌, ℕ, suc, ◌+◌, Bool, true, false, L
 use Rattle.std.proofs.lemmas.List.{append_assoc}
 use Rattle.std.proofs.lemmas.Bool.{and_parts, both_ways, cond-true, cond-false}
 use Rattle.std.proofs.lemmas.Bool.Decides.{nat_tests}
+use Rattle.std.proofs.lemmas.Option.{none-some}
 use Rattle.declarations.specs.Names.{letter}
 use Rattle.orders.specs.Texts.{text_byte}
 use Rattle.refusals.specs.Places.{GoesOn}
 use Rattle.grammar.specs.Words.{capital, is_variable, is_feature, is_text}
 use Rattle.grammar.specs.Trees.{Tree, Items, bare, described, none, item, label, written, listing, more, Limits, LawfulLabel, LawfulTree, LawfulList, LawfulItems, Written}
 use Rattle.grammar.specs.Scanner.{Part, begin, in_name, colon, in_kind, comma, in_feature, equals, closed, State, state, start, step, runs, accepting}
-use Rattle.grammar.proofs.Scanning.{onward, none-some, runs_nil, runs-first, runs_append, runs_join, Down, run_name, run_feature, run_kind}
+use Rattle.grammar.proofs.Scanning.{runs-first, runs_join, Down, run_name, run_feature, run_kind}
+use Rattle.scanning.proofs.Runs.{onward, runs_none, runs_append}
 
 -- a whole term may end so
 abbrev pub ended : Part → Bool
@@ -118,7 +120,7 @@ module _ (L : Limits) (down : Down L) where
 
     pub listing-runs : (d : ℕ) (items : Items) → LawfulList L d items
         → (p : Part) × (ended p ≡ true) × (runs L (state in_kind d) (listing items) ≡ Some (state p d))
-    listing-runs d none l = (in_kind, refl, runs_nil L (state in_kind d))
+    listing-runs d none l = (in_kind, refl, runs_none (step L) (state in_kind d))
     listing-runs d (item f t rest) l =
         let (p, e, h) = written-runs (suc d) t l.3 in (
           closed,
@@ -130,7 +132,7 @@ module _ (L : Limits) (down : Down L) where
 
     pub more-runs : (d : ℕ) (rest : Items) (p : Part) → ended p ≡ true → LawfulItems L (suc d) rest
         → runs L (state p (suc d)) (more rest) ≡ Some (state closed d)
-    more-runs d none p e l = runs-first L (state p (suc d)) 41 [] (Some (state closed d)) (at_close L p d e) ∙ runs_nil L (state closed d)
+    more-runs d none p e l = runs-first L (state p (suc d)) 41 [] (Some (state closed d)) (at_close L p d e) ∙ runs_none (step L) (state closed d)
     more-runs d (item f t rest) p e l =
         let (q, g, h) = written-runs (suc d) t l.2 in
         runs-first L (state p (suc d)) 44 _ (Some (state comma (suc d))) (at_comma L p d e)
@@ -145,7 +147,7 @@ module _ (L : Limits) (down : Down L) where
   stuck front e g =
       let (rest, (t, l, w)) = g in
       let (s, a, h) = line_runs t l in
-      none-some s (sym (runs_append L start front rest ∙ ap (λ o. onward L o rest) e) ∙ ap (runs L start) (sym w) ∙ h)
+      none-some s (sym (runs_append (step L) start front rest ∙ ap (λ o. onward (step L) o rest) e) ∙ ap (runs L start) (sym w) ∙ h)
 
   -- what is written is accepted
   pub written_accepts : (line : List ℕ) (s : State) → Written L line → runs L start line ≡ Some s → accepting s ≡ true

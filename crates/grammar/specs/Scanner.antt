@@ -1,6 +1,7 @@
 -- A line byte by byte: a middle layer between the reader and the trees, which no contract of a public call cites.
-use Rattle.std.specs.Prelude.{ℕ, zero, suc, Bool, false, cond, List, [], ◌∷◌, take, Some, None, Option, ◌==◌}
+use Rattle.std.specs.Prelude.{ℕ, zero, suc, Bool, false, cond, List, take, Some, None, Option, ◌==◌}
 use Rattle.declarations.specs.Names.{letter, name_byte}
+use Rattle.scanning.specs.Scanner as scanner
 use Rattle.orders.specs.Texts.{text_byte}
 use Rattle.grammar.specs.Words.{capital, name_letter}
 use Rattle.grammar.specs.Trees.{Limits, limits}
@@ -45,9 +46,8 @@ step L (state (in_feature n) d) b =
 step L (state equals d) b = cond (b == 62) (Some (state begin d)) None
 step L (state closed d) b = closing d b
 
-unfoldable pub runs : Limits → State → List ℕ → Option State
-runs L s [] = Some s
-runs L s (b ∷ bs) = elim (step L s b) [ Some q ↦ runs L q bs | None ↦ None ]
+abbrev pub runs : Limits → State → List ℕ → Option State
+runs L = scanner.runs (step L)
 
 -- whether a line may end so
 abbrev pub accepting : State → Bool

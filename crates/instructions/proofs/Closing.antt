@@ -10,11 +10,11 @@ use Rattle.instructions.specs.Steps.{run}
 use Rattle.instructions.proofs.Fetching.{past_first}
 use Rattle.instructions.proofs.Running.{reading, writing, test_passed, test_back}
 
-closes_more : (d e label : ℕ) → e < suc d → closes (suc d) e label ≡ WriteTest (suc d) label ∷ closes d e label
+pub closes_more : (d e label : ℕ) → e < suc d → closes (suc d) e label ≡ WriteTest (suc d) label ∷ closes d e label
 unfolding closes
 closes_more d e label l = cond-true _ _ [] (lt-ltb e (suc d) l)
 
-closes_none : (d e label : ℕ) → d ≤ e → closes d e label ≡ []
+pub closes_none : (d e label : ℕ) → d ≤ e → closes d e label ≡ []
 unfolding closes
 closes_none zero e label l = refl
 closes_none (suc d) e label l = cond-false _ (WriteTest (suc d) label ∷ closes d e label) [] (le-ltb e (suc d) l)

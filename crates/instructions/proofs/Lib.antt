@@ -3,7 +3,7 @@ mod Paths
 pub mod Agreeing
 mod Fetching
 mod Running
-mod Closing
+pub mod Closing
 mod Stretches
 mod WrittenKinds
 mod WrittenFeatures

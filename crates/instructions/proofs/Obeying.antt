@@ -9,7 +9,7 @@ use Rattle.joining.specs.Good.{Good}
 use Rattle.joining.proofs.Pushed.{good_push, push_refers, push_new_kind, push_new_slot, push_length}
 use Rattle.performing.specs.Performing.{perform_all}
 use Rattle.performing.proofs.Steps.{step_law}
-use Rattle.performing.proofs.Lists.{met_most}
+use Rattle.performing.proofs.Variables.{met_most}
 use Rattle.instructions.specs.Codes.{beginning, kinds, read_code, write_code}
 use Rattle.instructions.specs.Steps.{entered}
 use Rattle.instructions.specs.Law.{rooted, most_turns, enter, match_at, Suits, RuleLaw, TurnsLaw, CodesLaw}

@@ -7,7 +7,7 @@ use Rattle.grammar.specs.declared.statement.Statement.{Statement}
 use Rattle.grammar.specs.Lawful.{Open, may_come, after, lawful_from}
 use Rattle.performing.specs.Performing.{State, perform, perform_from}
 use Rattle.performing.specs.Following.{StepLaw, met_by}
-use Rattle.performing.proofs.Lists.{met_most}
+use Rattle.performing.proofs.Variables.{met_most}
 use Rattle.instructions.specs.declared.instruction.Instruction.{Instruction}
 use Rattle.instructions.specs.Codes.{Compiling, depth_of, next, read_from, write_from}
 use Rattle.instructions.specs.Steps.{run}

@@ -1,5 +1,6 @@
 -- Heaps that say all that an earlier one says.
 use Rattle.std.proofs.Common.{None, Some, arith, inl, inr, length, refl, sym, ℕ, ◌<◌, ◌∙◌, ◌≡◌, ◌≤◌}
+use Rattle.std.proofs.lemmas.Option.{none-some}
 use Rattle.std.proofs.lemmas.Bool.{cases_eq}
 use Rattle.orders.specs.Meaning.{Meaning}
 use Rattle.joining.specs.Good.{Good}
@@ -7,7 +8,6 @@ use Rattle.joining.specs.Heap.{Heap, end, fill, kind, push, set_kind, slot}
 use Rattle.joining.specs.Law.{Extends}
 use Rattle.joining.proofs.Kept.{end_in, fill_there}
 use Rattle.joining.proofs.KindSet.{set_kind_end, set_kind_here, set_kind_there}
-use Rattle.joining.proofs.Moved.{none_some}
 use Rattle.joining.proofs.Pushed.{push_end, push_kind, push_slot}
 
 module _ {K : Type 0} (m : Meaning K) where
@@ -59,6 +59,6 @@ module _ {K : Type 0} (m : Meaning K) where
         kept : (x n i : ℕ) → n < h.features → slot h x n ≡ Some i → slot (fill h e f j) x n ≡ Some i
         kept x n i ln q =
             elim (cases_eq x e) [
-              | inl u ↦ elim (cases_eq n f) [ inl v ↦ none_some (slot h e f) i empty (rw (u, v) at q) | inr v ↦ fill_there m.widest h g e f j le lf x n ln (inr v) ∙ q ]
+              | inl u ↦ elim (cases_eq n f) [ inl v ↦ absurd (none-some i (sym empty ∙ (rw (u, v) at q))) | inr v ↦ fill_there m.widest h g e f j le lf x n ln (inr v) ∙ q ]
               | inr u ↦ fill_there m.widest h g e f j le lf x n ln (inl u) ∙ q
             ]

@@ -1,6 +1,7 @@
 -- Carrying loses nothing: what a slot of the second says, the first says too, up to the pairs that are pending.
 use Rattle.std.proofs.Common.{None, Option, Some, ap, arith, inl, inr, length, refl, suc, sym, ℕ, ◌+◌, ◌<◌, ◌∙◌, ◌≡◌, ◌≢◌, ◌≤◌, ◌⊎◌}
 use Rattle.std.proofs.lemmas.Bool.{cases_eq}
+use Rattle.std.proofs.lemmas.Option.{none-some}
 use Rattle.joining.specs.Good.{Good}
 use Rattle.joining.specs.Heap.{Heap, put_slot, slot, slot_in}
 use Rattle.joining.specs.Joining.{Carried, carry, work}
@@ -12,9 +13,6 @@ use Rattle.joining.proofs.Tied.{Tied}
 -- the slot f of i has some content of which P holds
 abbrev pub Says : {K : Type 0} → Heap K → ℕ → ℕ → (ℕ → Type 0) → Type 0
 Says h i f P = (k : ℕ) × (slot h i f ≡ Some k) × P k
-
-pub none_some : {P : Type 0} (o : Option ℕ) (j : ℕ) → o ≡ None → o ≡ Some j → P
-none_some o j p q = cc
 
 module _ {K : Type 0} (top : K) (h : Heap K) (room a b : ℕ) (la : a < h.used) (lb : b < h.used) (apart : a ≢ b) (w : Carried)
     (fits : h.features + length w.pending ≤ room) where
@@ -34,7 +32,7 @@ module _ {K : Type 0} (top : K) (h : Heap K) (room a b : ℕ) (la : a < h.used) 
     second = m.second;
     done = λ n j ln lt e.
         elim (cases_eq n f) [
-          | inl q ↦ none_some (slot_in v.slots h.features b f) j y (m.second f l ∙ (rw q at e))
+          | inl q ↦ absurd (none-some j (sym y ∙ m.second f l ∙ (rw q at e)))
           | inr q ↦ m.done n j ln (omega arith) e
         ];
     tied = m.tied;
@@ -66,7 +64,7 @@ module _ {K : Type 0} (top : K) (h : Heap K) (room a b : ℕ) (la : a < h.used) 
     kept_fill : (i n k : ℕ) → n < h.features → before i n ≡ Some k → after i n ≡ Some k
     kept_fill i n k ln e =
         let keeps : (i ≢ a) ⊎ (n ≢ f) → after i n ≡ Some k = λ ne. there i n ln ne ∙ m.kept i n k ln e in
-        let never : i ≡ a → n ≡ f → after i n ≡ Some k = λ p q. none_some (slot_in v.slots h.features a f) k x (rw (p, q) at (m.kept i n k ln e)) in
+        let never : i ≡ a → n ≡ f → after i n ≡ Some k = λ p q. absurd (none-some k (sym x ∙ (rw (p, q) at (m.kept i n k ln e)))) in
         elim (cases_eq i a) [ inl p ↦ elim (cases_eq n f) [ inl q ↦ never p q | inr q ↦ keeps (inr q) ] | inr p ↦ keeps (inl p) ]
 
     moved_fill : Moved (suc f) (filled h.features a f j v)

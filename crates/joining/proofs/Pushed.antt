@@ -1,12 +1,12 @@
 -- One more cell is in use: what is read of a heap in order stays as it was, since cells that are not in use are already as `push` leaves
 -- them.
 use Rattle.std.proofs.Common.{None, ap, arith, inl, inr, length, suc, sym, zero, ℕ, ◌*◌, ◌<◌, ◌∙◌, ◌≡◌}
+use Rattle.std.proofs.lemmas.Option.{none-some}
 use Rattle.std.proofs.lemmas.Bool.{cases_eq, eq-eqb}
 use Rattle.joining.specs.Good.{Good, Reaches, away}
 use Rattle.joining.specs.Heap.{Heap, end, follow, kind, push, refers, slot}
 use Rattle.joining.proofs.Follow.{away_agrees, follow_alike}
 use Rattle.joining.proofs.Kept.{root_end}
-use Rattle.joining.proofs.Moved.{none_some}
 use Rattle.joining.proofs.Writes.{emptied_here, emptied_length, emptied_there, put_new_kind, put_new_kind_there, put_new_length, put_new_refers, put_new_refers_there}
 
 module _ {K : Type 0} (top : K) (h : Heap K) (g : Good top h) (room : h.used < length h.cells) where
@@ -78,7 +78,7 @@ module _ {K : Type 0} (top : K) (h : Heap K) (g : Good top h) (room : h.used < l
     reaches = λ i l. rw push_away (push_reaches i l);
     held = λ i f j l lf e.
         elim (cases_eq i h.used) [
-          | inl q ↦ none_some (slot h i f) j (g.fresh_slot i f (omega arith) lf) (sym (push_slot i f lf) ∙ e)
+          | inl q ↦ absurd (none-some j (sym (g.fresh_slot i f (omega arith) lf) ∙ sym (push_slot i f lf) ∙ e))
           | inr n ↦ omega (arith, g.held i f j (omega arith) lf (sym (push_slot i f lf) ∙ e))
         ];
     fresh_refers = λ i l. push_refers i ∙ g.fresh_refers i (omega arith);

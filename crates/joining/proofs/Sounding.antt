@@ -1,5 +1,6 @@
 -- What a heap says stays true of a structure when a true thing is written.
 use Rattle.std.proofs.Common.{Some, ap, arith, cond, inl, inr, length, refl, sym, ℕ, ◌<◌, ◌==◌, ◌∙◌, ◌≡◌}
+use Rattle.std.proofs.lemmas.Option.{none-some}
 use Rattle.std.proofs.lemmas.Bool.{cases_eq, cond-false, cond-true, eq-eqb, ne_eqb}
 use Rattle.orders.specs.Meaning.{Meaning}
 use Rattle.joining.specs.Good.{Good}
@@ -7,7 +8,6 @@ use Rattle.joining.specs.Heap.{Heap, end, kind, push, set_kind, slot}
 use Rattle.joining.specs.Interpretation.{Sound, Structure}
 use Rattle.joining.proofs.Kept.{end_in}
 use Rattle.joining.proofs.KindSet.{set_kind_here, set_kind_refers, set_kind_there}
-use Rattle.joining.proofs.Moved.{none_some}
 use Rattle.joining.proofs.Pushed.{push_kind, push_refers, push_slot}
 use Rattle.joining.proofs.Tied.{label_end}
 
@@ -59,7 +59,7 @@ module _ {K T : Type 0} (m : Meaning K) (s : Structure K T) (thing : ℕ → T) 
     leads = λ i f j l lf q.
         let was : slot h i f ≡ Some j = sym (push_slot m.widest h g room i f lf) ∙ q in
         elim (cases_eq i h.used) [
-          | inl p ↦ none_some (slot h i f) j (g.fresh_slot i f (omega arith) lf) was
+          | inl p ↦ absurd (none-some j (sym (g.fresh_slot i f (omega arith) lf) ∙ was))
           | inr n ↦ let old : i < h.used = omega arith in rw (e i old, e j (g.held i f j old lf was)) (t.leads i f j old lf was)
         ];
   }

@@ -2,13 +2,14 @@
 use Rattle.std.proofs.Common.{◌≡◌, ℕ, true, false, eqb, List, [], ◌∷◌, ◌++◌, Some, None, Option, refl, ap, ◌∙◌, inl, inr, arith}
 use Rattle.std.specs.List.{AllByRecursion}
 use Rattle.std.proofs.lemmas.Bool.{both_ways, cases_Bool, eqb-true, cond-true, cond-false}
+use Rattle.std.proofs.lemmas.Option.{none-some}
 use Rattle.orders.specs.Texts.{text_byte, IsText}
 use Rattle.narrowing.specs.declared.line.Part.{Part}
 use Rattle.narrowing.specs.declared.line.Part.TheVariants.{Start, First, Blank, Second}
 use Rattle.narrowing.specs.Lines.{Line}
 use Rattle.narrowing.specs.Scanner.{next_part, ends}
 use Rattle.scanning.specs.Scanner.{runs, RunsOut, Decides}
-use Rattle.scanning.proofs.Runs.{onward, runs-step, none-some, after_first}
+use Rattle.scanning.proofs.Runs.{onward, runs-step, after_first}
 
 abbrev AllText : List ℕ → Type 0
 AllText bytes = AllByRecursion (λ b. text_byte b ≡ true) bytes
@@ -61,7 +62,7 @@ rest Start (b ∷ bs) e =
       | inl t ↦
           let (w, u, a, h, is) = rest First bs (after_first next_part Start b bs (Some First) Second (cond-true _ (Some First) None t) e) in
           record { first = b ∷ w; second = u; first_text = (omega arith, (t, a)); second_text = h; whole = ap (λ x. b ∷ x) is }
-      | inr f ↦ absurd (none-some next_part Second (after_first next_part Start b bs None Second (cond-false _ (Some First) None f) e))
+      | inr f ↦ absurd (none-some Second (after_first next_part Start b bs None Second (cond-false _ (Some First) None f) e))
     ]
 rest First (b ∷ bs) e =
     elim (cases_Bool (text_byte b)) [
@@ -73,18 +74,18 @@ rest First (b ∷ bs) e =
             | inl s ↦
                 let h = rest Blank bs (after_first next_part First b bs (Some Blank) Second (cond-false _ (Some First) _ f ∙ cond-true _ (Some Blank) None s) e) in
                 ([], bs, tt, h, ap (λ x. x ∷ bs) (eqb-true b 32 s))
-            | inr s ↦ absurd (none-some next_part Second (after_first next_part First b bs None Second (cond-false _ (Some First) _ f ∙ cond-false _ (Some Blank) None s) e))
+            | inr s ↦ absurd (none-some Second (after_first next_part First b bs None Second (cond-false _ (Some First) _ f ∙ cond-false _ (Some Blank) None s) e))
           ]
     ]
 rest Blank (b ∷ bs) e =
     elim (cases_Bool (text_byte b)) [
       | inl t ↦ (omega arith, (t, rest Second bs (after_first next_part Blank b bs (Some Second) Second (cond-true _ (Some Second) None t) e)))
-      | inr f ↦ absurd (none-some next_part Second (after_first next_part Blank b bs None Second (cond-false _ (Some Second) None f) e))
+      | inr f ↦ absurd (none-some Second (after_first next_part Blank b bs None Second (cond-false _ (Some Second) None f) e))
     ]
 rest Second (b ∷ bs) e =
     elim (cases_Bool (text_byte b)) [
       | inl t ↦ (t, rest Second bs (after_first next_part Second b bs (Some Second) Second (cond-true _ (Some Second) None t) e))
-      | inr f ↦ absurd (none-some next_part Second (after_first next_part Second b bs None Second (cond-false _ (Some Second) None f) e))
+      | inr f ↦ absurd (none-some Second (after_first next_part Second b bs None Second (cond-false _ (Some Second) None f) e))
     ]
 
 -- from every part of a line some bytes lead to its end

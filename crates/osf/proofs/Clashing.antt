@@ -13,7 +13,8 @@ use Rattle.performing.specs.Performing.{State}
 use Rattle.performing.specs.Structures.{structure_of}
 use Rattle.performing.specs.Following.{AllFit, met_after, NeverTrue, Performed}
 use Rattle.performing.proofs.Onward.{Within}
-use Rattle.performing.proofs.Lists.{AllPerformed, all_within}
+use Rattle.performing.proofs.Lists.{AllPerformed}
+use Rattle.performing.proofs.Variables.{all_within}
 use Rattle.osf.specs.Facts.{Fact, Holds, Interpretation, facts_of}
 use Rattle.osf.specs.Calls.{accepted_if}
 use Rattle.osf.specs.Runs.{Case, with_rule}

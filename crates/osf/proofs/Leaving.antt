@@ -13,7 +13,8 @@ use Rattle.joining.proofs.Join.{join_law}
 use Rattle.performing.specs.Performing.{State}
 use Rattle.performing.specs.Following.{AllFit, met_by, Performed}
 use Rattle.performing.proofs.Onward.{Within}
-use Rattle.performing.proofs.Lists.{AllPerformed, all_within, met_most}
+use Rattle.performing.proofs.Lists.{AllPerformed}
+use Rattle.performing.proofs.Variables.{all_within, met_most}
 use Rattle.performing.proofs.Steps.{all_performed}
 use Rattle.osf.specs.Facts.{Fact, facts_of}
 use Rattle.instructions.proofs.Obeying.{codes_law}

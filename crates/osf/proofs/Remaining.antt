@@ -11,7 +11,8 @@ use Rattle.joining.proofs.Kept.{end_in, end_root}
 use Rattle.joining.proofs.Pushed.{push_length, push_slots}
 use Rattle.performing.specs.Performing.{State}
 use Rattle.performing.specs.Following.{met_by}
-use Rattle.performing.proofs.Lists.{AllPerformed, met_most}
+use Rattle.performing.proofs.Lists.{AllPerformed}
+use Rattle.performing.proofs.Variables.{met_most}
 use Rattle.instructions.specs.Law.{most_turns, enter, match_at}
 use Rattle.instructions.proofs.Obeying.{codes_law}
 use Rattle.osf.specs.Calls.{Left, LetThrough, variables_of, accepted, accepted_if, joined_if}

@@ -1,4 +1,5 @@
 pub mod Onward
+pub mod Variables
 pub mod Lists
 mod Places
 mod Narrowing

@@ -1,7 +1,6 @@
 -- Performing a list of statements: what one statement does, as often as there are statements.
-use Rattle.std.proofs.Common.{◌≡◌, ℕ, suc, ◌+◌, ◌<◌, ◌≤◌, Bool, true, false, cond, List, [], ◌∷◌, length, Some, None, Ok, Err, Option, Result, take, refl, sym, ap, ◌∙◌, subst, arith, slice_index, ◌==◌, inl, inr}
-use Rattle.std.proofs.lemmas.Bool.{cases_lt, eqb-false}
-use Rattle.std.specs.List.{AllByRecursion}
+use Rattle.std.proofs.Common.{◌≡◌, ℕ, suc, ◌+◌, ◌<◌, ◌≤◌, List, [], ◌∷◌, length, Some, None, Ok, Err, Option, Result, take, refl, sym, ap, ◌∙◌, subst, arith, slice_index, inl, inr}
+use Rattle.std.proofs.lemmas.Bool.{cases_lt}
 use Rattle.orders.specs.Meaning.{Meaning}
 use Rattle.grammar.specs.declared.statement.Statement.{Statement}
 use Rattle.grammar.specs.declared.statement.Statement.TheVariants.{Kind, Feature}
@@ -12,43 +11,13 @@ use Rattle.performing.specs.Structures.{structure_of, Says}
 use Rattle.performing.specs.Following.{Fits, AllFit, met_after, met_by, InOrder, Follows, NeverTrue, Performed, Step, StepLaw}
 use Rattle.joining.proofs.Extending.{extends_on}
 use Rattle.performing.proofs.Onward.{still_says, Within}
+use Rattle.performing.proofs.Variables.{fits_within, met_most}
 
 -- what is performed of a list where n statements came before: all of it, or the first k, after which the next is true nowhere
 abbrev pub AllPerformed : {K : Type 0} → Meaning K → (T : Type 0) → ℕ → List (Statement K) → State K → Result (State K) ℕ → Type 0
 AllPerformed m T n ts s (Ok u) = Performed m T ts s u
 AllPerformed {K} m T n ts s (Err c) =
     (k : ℕ) × (c ≡ suc (n + k)) × (k < length ts) × (u : State K) × Performed m T (take k ts) s u × NeverTrue m T (take (suc k) ts) s
-
-more_if : (b : Bool) (p : ℕ) → p ≤ cond b (suc p) p
-more_if true p = omega arith
-more_if false p = omega arith
-
-pub met_more : {K : Type 0} (p : ℕ) (t : Statement K) → p ≤ met_after p t
-met_more p (Kind x k) = omega arith
-met_more p (Feature x f y) = more_if (y == p) p
-
-pub met_most : {K : Type 0} (p : ℕ) (ts : List (Statement K)) → p ≤ met_by p ts
-unfolding met_by
-met_most p [] = omega arith
-met_most p (t ∷ ts) = omega (arith, met_more p t, met_most (met_after p t) ts)
-
--- the variables of a statement that fits are met after it
-pub fits_within : {K : Type 0} (features p : ℕ) (t : Statement K) → Fits features p t → Within (met_after p t) t
-fits_within features p (Kind x k) h = h
-fits_within features p (Feature x f y) h = (omega (arith, more_if (y == p) p, h.0), go (y == p) refl) where
-  go : (b : Bool) → (y == p) ≡ b → y < cond b (suc p) p
-  go true e = omega (arith, h.2)
-  go false e = omega (arith, h.2, eqb-false y p e)
-
-pub within_more : {K : Type 0} (p q : ℕ) → p ≤ q → (t : Statement K) → Within p t → Within q t
-within_more p q l (Kind x k) w = omega (arith, l, w)
-within_more p q l (Feature x f y) w = (omega (arith, l, w.0), omega (arith, l, w.1))
-
-pub all_within : {K : Type 0} (features p : ℕ) (ts : List (Statement K)) → AllFit features p ts → AllByRecursion (Within (met_by p ts)) ts
-unfolding AllFit met_by
-all_within features p [] f = tt
-all_within features p (t ∷ ts) f =
-    (within_more (met_after p t) (met_by (met_after p t) ts) (met_most (met_after p t) ts) t (fits_within features p t f.0), all_within features (met_after p t) ts f.1)
 
 module _ {K : Type 0} (m : Meaning K) where
   pub follows_none : (s : State K) → InOrder m s → Follows m s s

@@ -1,6 +1,7 @@
 -- What a heap says, a heap that extends it says too; and one that extends that.
 use Rattle.std.proofs.Common.{◌≡◌, ℕ, ◌<◌, ◌≤◌, Bool, true, false, cond, Some, None, Option, refl, ap, ◌∙◌, arith, nat_lt}
 use Rattle.std.proofs.lemmas.Bool.{ltb-true, lt-ltb}
+use Rattle.std.proofs.lemmas.Option.{none-some}
 use Rattle.orders.specs.Meaning.{Meaning}
 use Rattle.grammar.specs.declared.statement.Statement.{Statement}
 use Rattle.grammar.specs.declared.statement.Statement.TheVariants.{Kind, Feature}
@@ -24,13 +25,10 @@ module _ {K : Type 0} (m : Meaning K) where
   -- a feature of the case leads to a thing exactly where a slot holds a cell with this end
   pub leads_in : (h : Heap K) (e f z : ℕ) → (structure_of m h).feature f e ≡ Some z → (f < h.features) × ((j : ℕ) × (slot h e f ≡ Some j) × (end m.widest h j ≡ z))
   leads_in h e f z q = go (nat_lt f h.features) refl (slot h e f) refl q where
-    no_thing : ◌≡◌ {A = Option ℕ} None (Some z) → ⊥
-    no_thing q = let n : ◌≡◌ {A = ℕ} 0 1 = cc in omega (arith, n)
-
     go : (b : Bool) → nat_lt f h.features ≡ b → (o : Option ℕ) → slot h e f ≡ o → cond b (structures.end_in m h o) None ≡ Some z → (f < h.features) × ((j : ℕ) × (slot h e f ≡ Some j) × (end m.widest h j ≡ z))
     go true l (Some j) s q = (ltb-true _ _ l, (j, s, cc))
-    go true l None s q = absurd (no_thing q)
-    go false l o s q = absurd (no_thing q)
+    go true l None s q = absurd (none-some z q)
+    go false l o s q = absurd (none-some z q)
 
   pub leads_to : (h : Heap K) (e f j : ℕ) → f < h.features → slot h e f ≡ Some j → (structure_of m h).feature f e ≡ Some (end m.widest h j)
   leads_to h e f j l s = rw (lt-ltb f h.features l, s) refl

@@ -7,14 +7,15 @@ use Rattle.grammar.specs.Scanner.{State, step, start, runs, kept_if, here}
 use Rattle.grammar.specs.Trees.{Limits, limits, no_limits}
 use Rattle.grammar.specs.Words.{all_by, is_word}
 use Rattle.grammar.proofs.Breaking.{past_here}
-use Rattle.grammar.proofs.Scanning.{onward, runs_append, runs_nil, runs-first}
+use Rattle.scanning.proofs.Runs.{onward, runs_append, runs_none}
+use Rattle.grammar.proofs.Scanning.{runs-first}
 use Rattle.reading.specs.declared.reader.Class.{Class}
 use Rattle.reading.specs.Reading.{in_class, Spans, Longest}
 use Rattle.reading.proofs.Spanning.{spans-part, spans_between}
 
 -- where the bytes of a part lead
 pub here_over : (line : List ℕ) (i j : ℕ) (w : List ℕ) (s : State) (o : Option State) → Spans line i j w → here line i ≡ Some s → runs limits s w ≡ o → here line j ≡ o
-here_over line i j w s o p e r = ap (runs limits start) p.bytes ∙ runs_append limits start (take i line) w ∙ ap (λ x. onward limits x w) e ∙ r
+here_over line i j w s o p e r = ap (runs limits start) p.bytes ∙ runs_append (step limits) start (take i line) w ∙ ap (λ x. onward (step limits) x w) e ∙ r
 
 pub all_by_at : (p : ℕ → Bool) (xs : List ℕ) (k : ℕ) → all_by p xs ≡ true → k < length xs → p (get_or xs k 0) ≡ true
 unfolding all_by
@@ -58,7 +59,7 @@ module _ (class : Class) (first : ℕ → Bool) (from : State) (in-word : ℕ �
     (goes : (L : Limits) (n b : ℕ) → in_class class b ≡ true → step L (in-word n) b ≡ kept_if (L.word (suc n)) (in-word (suc n))) where
   run_on : (n : ℕ) (w : List ℕ) → all_by (in_class class) w ≡ true → n + length w ≤ 24 → runs limits (in-word n) w ≡ Some (in-word (n + length w))
   unfolding all_by
-  run_on n [] a l = runs_nil limits (in-word n) ∙ ap (λ k. Some (in-word k)) (e n)
+  run_on n [] a l = runs_none (step limits) (in-word n) ∙ ap (λ k. Some (in-word k)) (e n)
     where
       e : (m : ℕ) → m ≡ m + 0
       e m = omega arith

@@ -1,6 +1,7 @@
 -- The marks of a line, and the bytes that they are.
 use Rattle.std.proofs.Common.{◌≡◌, ℕ, ◌<◌, ◌≤◌, Bool, true, false, cond, eqb, ltb, List, length, get_or, Some, None, Option, sym, refl, ap, ◌∙◌, inl, inr, arith}
 use Rattle.std.proofs.lemmas.Bool.{cases_Bool, cond-true, cond-false, eqb-true, ltb-true, lt-ltb}
+use Rattle.std.proofs.lemmas.Option.{none-some}
 use Rattle.reading.specs.declared.reader.Mark.{Mark}
 use Rattle.reading.specs.declared.reader.Mark.TheVariants.{Open, Close, Comma, Colon, Equals, Greater, Other}
 use Rattle.reading.specs.Reading.{byte_at, mark_of}
@@ -35,9 +36,6 @@ mark_byte (Some x) m b e c =
     chosen (eqb x 61) _ _ m _ e4 (λ t q. coded x 61 b Equals m t q refl c) (λ _ e5.
     chosen (eqb x 62) _ _ m _ e5 (λ t q. coded x 62 b Greater m t q refl c) (λ _ e6.
     absurd (let z : ◌≡◌ {A = ℕ} 0 1 = cc (ap code e6 ∙ c) in omega arith)))))))
-
-none-some : (b : ℕ) → ◌≡◌ {A = Option ℕ} None (Some b) → ⊥
-none-some b e = let z : ◌≡◌ {A = ℕ} 0 1 = cc in omega arith
 
 pub byte_here : (line : List ℕ) (i b : ℕ) → byte_at line i ≡ Some b → (i < length line) × (get_or line i 0 ≡ b)
 byte_here line i b e =

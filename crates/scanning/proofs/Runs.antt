@@ -2,6 +2,7 @@
 use Rattle.std.proofs.Common.{◌≡◌, ℕ, ◌+◌, ◌<◌, ◌≤◌, Bool, false, List, [], ◌∷◌, ◌++◌, length, get_or, take, Some, None, Option, sym, refl, ap, ◌∙◌, inl, inr, arith}
 use Rattle.std.proofs.lemmas.List.{take_more, take_all}
 use Rattle.std.proofs.lemmas.Bool.{both_ways}
+use Rattle.std.proofs.lemmas.Option.{none-some}
 use Rattle.refusals.specs.Places.{GoesOn, Breaks}
 use Rattle.scanning.specs.Scanner.{runs, Decides}
 
@@ -31,9 +32,6 @@ module _ {P : Type 0} (next : P → ℕ → Option P) where
       step : (o : Option P) → ((q : P) → runs next q (bs ++ ys) ≡ onward (runs next q bs) ys) → onward o (bs ++ ys) ≡ onward (onward o bs) ys
       step (Some q) h = h q
       step None h = refl
-
-  pub none-some : (p : P) → ◌≡◌ {A = Option P} None (Some p) → ⊥
-  none-some p e = let z : ◌≡◌ {A = ℕ} 0 1 = cc in omega arith
 
   -- the same part is reached once
   same_part : (o : Option P) (p q : P) → o ≡ Some p → o ≡ Some q → p ≡ q
@@ -69,7 +67,7 @@ module _ {P : Type 0} {first : P} {next : P → ℕ → Option P} {last : P → 
   stuck front e g =
       let (more, l) = g in
       let (q, h, z) = laws.complete (front ++ more) l in
-      none-some next q (sym (runs_append next first front more ∙ ap (λ o. onward next o more) e) ∙ h)
+      none-some q (sym (runs_append next first front more ∙ ap (λ o. onward next o more) e) ∙ h)
 
   pub breaks-here : (line : List ℕ) (i : ℕ) (p : P) → i < length line → runs next first (take i line) ≡ Some p → next p (get_or line i 0) ≡ None → Breaks Lawful line i
   breaks-here line i p l e n =

@@ -2,14 +2,14 @@ use Rattle.std.proofs.Common.{arith}
 use Rattle.std.proofs.lemmas.Result.{err_from_is_err_and}
 use Rattle.features.specs.Model.{feature_names}
 use Rattle.grammar.specs.Trees.{limits}
-use Rattle.grammar.proofs.Scanning.{runs_none}
+use Rattle.grammar.proofs.Scanning.{runs_start}
 use Rattle.reading.proofs.Rooting.{noted_nothing, behind, whole_line}
 use Rattle.reading.proofs.reader.heads.trees.root.Goals as goal
 
 pub term-requires : goal.term-requires
 term-requires c =
     let none = noted_nothing c.args.notes.now c.requires in
-    (omega arith, (runs_none limits c.args.reader.now.line.now, ((omega (arith, none.0), omega (arith, none.1)), omega arith)))
+    (omega arith, (runs_start limits c.args.reader.now.line.now, ((omega (arith, none.0), omega (arith, none.1)), omega arith)))
 
 pub returns-in_err-end : goal.returns-in_err-end
 returns-in_err-end c =
