@@ -1,9 +1,10 @@
 // The work of the programs that try a file's rules on its entries.
 //
-// `answer`  the text that answers a file: what comes of every rule on every entry, or why the file is refused
+// `read_input`  a program's input, no more of it than shows that it is too long for a file
+// `answer`      the text that answers a file: what comes of every rule on every entry, or why the file is refused
 #![tactic(auto)]
 
-ghost use Rattle.std.specs.Prelude.{◌≡◌, ◌∷◌, [], ◌++◌, IfOk, map, length, vec_items, codes};
+ghost use Rattle.std.specs.Prelude.{◌≡◌, ◌∷◌, [], ◌++◌, IfOk, IfSome, map, length, take, vec_items, codes};
 ghost use Rattle.refusals.specs.Table.{row, printed};
 ghost use Rattle.features.specs.Model.{feature_names};
 ghost use Rattle.trials.specs.Shown.{trials_shown};
@@ -13,12 +14,25 @@ ghost use Rattle.answering.specs.Answers.{Answers};
 
 use files::made::OfList;
 use files::memory::Memory;
-use files::{Book, read_file};
+use files::{Book, LONGEST_FILE, read_file};
 use refusals::Refusal;
+use showing::LONGEST_KIND;
 use std::alloc::{AllocError, Global};
-use std::io::Write;
+use std::io::{self, Read, Write};
 use trials::text::put_trials;
 use trials::try_all;
+
+// How many bytes a line of the text has at most: two numbers of three digits, `yes`, the blanks, a kind as long as one is shown, and the feed.
+const LONGEST_LINE: usize = 3 + 1 + 3 + 1 + 3 + 1 + LONGEST_KIND + 1;
+
+// Reads an input. Of one that is longer than a file may be, one byte more than a file may have is read: it will be refused for its length.
+pub fn read_input<R: Read + Drop>(input: R, heap: Global) -> io::Result<Vec<u8>>
+    ensures { IfOk result (λ file. IfSome (R.remaining input) (λ bytes. file.items ≡ take 60001 bytes)) }
+{
+    let mut file = Vec::with_capacity(heap, LONGEST_FILE + 1)?;
+    input.take(LONGEST_FILE as u64 + 1).read_to_end(&mut file)?;
+    Ok(file)
+}
 
 // The text of a file's refusal.
 fn refused_text(refusal: Refusal, heap: Global) -> Result<Vec<u8>, AllocError>
@@ -44,7 +58,7 @@ fn tried_text<K: Copy, O: OfList<Kind = K>>(
         book.rules.as_slice(),
         heap,
     )?;
-    let mut text = Vec::new(heap);
+    let mut text = Vec::with_capacity(heap, trials.len().saturating_mul(LONGEST_LINE))?;
     put_trials(&book.order, trials.as_slice(), &mut text)?;
     Ok(text)
 }

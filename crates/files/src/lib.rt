@@ -4,10 +4,11 @@
 // `Book`       what a file says
 // `Memory`     memory for all that the largest file says
 // `OfList`     the orders that a file's list of kinds is made into
+// `LONGEST_FILE`  how many bytes a file may have
 #![tactic(auto)]
 
 mod lines;
 pub mod made;
 pub mod memory;
 
-pub use lines::reads::{Book, read_file};
+pub use lines::reads::{Book, LONGEST_FILE, read_file};

@@ -12,7 +12,7 @@ use refusals::Refusal;
 use std::alloc::{AllocError, Global};
 
 // How many bytes of a kind's text are shown.
-const LONGEST_KIND: usize = 256;
+pub const LONGEST_KIND: usize = 256;
 
 // Adds the kind's text, or a question mark where it has none or a longer one. No `Display`: the order has the texts, and not the kind.
 pub fn put_kind<O: WrittenOrder>(

@@ -1,0 +1,7 @@
+use Rattle.answering.proofs.Input.{first_read}
+use Rattle.answering.proofs.read_input.Goals as goal
+
+pub returns : goal.returns
+returns g c =
+    first_read g.R.Read.remaining c.take.result c.args.input c.in_ok-file.file.items c.read_to_end.new.buf.items c.take.ensures.limit c.take.ensures.inner
+    c.in_ok-file.ensures.items c.in_ok-read_to_end.ensures.bytes
