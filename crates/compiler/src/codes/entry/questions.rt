@@ -22,13 +22,6 @@ impl<K: Copy> Entry<K> {
         Ok(Entry { source, code })
     }
 
-    // For how many instructions there is memory.
-    pub fn room(&self) -> usize
-        ensures { result ≡ room_of self.now }
-    {
-        self.source.room()
-    }
-
     // The instructions.
     pub fn code(&self) -> &[Instruction]
         ensures { result.now ≡ entry_code (statements_of self.now) }

@@ -25,13 +25,6 @@ impl<K: Copy> Rule<K> {
         })
     }
 
-    // For how many instructions there is memory, those of both codes together.
-    pub fn room(&self) -> usize
-        ensures { result ≡ room_of self.now }
-    {
-        self.source.room()
-    }
-
     // The instructions that read.
     pub fn reads(&self) -> &[Instruction]
         ensures { result.now ≡ read_code (statements_of self.now) }
