@@ -8,6 +8,4 @@ pub mod band;
 pub mod order;
 mod reading;
 mod spelling;
-#[cfg(test)]
-mod tests;
 pub mod texts;

@@ -52,17 +52,24 @@ fn back(depth: usize, label: usize) -> Instruction {
 #[test]
 fn a_new_entry_is_that_of_a_bare_name(rt: HostRuntime) -> Result<(), Fail> {
     let entry: Entry<usize> = Entry::new(rt.alloc(), 5)?;
-    assert_eq!(rt; entry.room(), 5);
-    assert_eq!(rt; entry.code(), [push(0)].as_slice());
-    assert_eq!(rt; entry.variables(), 1);
-    assert_eq!(rt; entry.features(), 0);
-    assert!(rt; entry.kinds().is_empty());
-    assert!(rt; entry.statements().is_empty());
+    let sizes = [entry.room(), entry.variables(), entry.features()];
+    assert!(rt;
+        sizes == [5, 1, 0]
+            && entry.code() == [push(0)].as_slice()
+            && entry.kinds().is_empty()
+            && entry.statements().is_empty()
+    );
+    Ok(())
+}
+
+#[test]
+fn a_new_rule_is_that_of_a_bare_name(rt: HostRuntime) -> Result<(), Fail> {
     let rule: Rule<usize> = Rule::new(rt.alloc(), 5)?;
-    assert_eq!(rt; rule.room(), 5);
-    assert!(rt; rule.reads().is_empty());
-    assert!(rt; rule.writes().is_empty());
-    assert_eq!(rt; rule.variables(), 1);
+    assert!(rt;
+        [rule.room(), rule.variables()] == [5, 1]
+            && rule.reads().is_empty()
+            && rule.writes().is_empty()
+    );
     Ok(())
 }
 
@@ -70,7 +77,7 @@ fn a_new_entry_is_that_of_a_bare_name(rt: HostRuntime) -> Result<(), Fail> {
 fn the_code_of_an_entry(rt: HostRuntime) -> Result<(), Fail> {
     let term = term(rt.alloc(), b"any(paid=>fee(back=>Y),for=>Y)")?;
     let mut entry = Entry::new(rt.alloc(), 8)?;
-    assert_eq!(rt; entry.compile(&term), Ok(8));
+    let compiled = entry.compile(&term);
     let code = [
         push(0),
         sort(0, 0),
@@ -81,11 +88,17 @@ fn the_code_of_an_entry(rt: HostRuntime) -> Result<(), Fail> {
         feature(1, BACK, 2),
         feature(0, FOR, 2),
     ];
-    assert_eq!(rt; entry.code(), code.as_slice());
-    assert_eq!(rt; entry.kinds(), [0, 9].as_slice());
-    assert_eq!(rt; entry.variables(), 3);
-    assert_eq!(rt; entry.features(), 7);
-    assert_eq!(rt; entry.statements().len(), 5);
+    let sizes = [
+        entry.variables(),
+        entry.features(),
+        entry.statements().len(),
+    ];
+    assert!(rt;
+        compiled == Ok(8)
+            && entry.code() == code.as_slice()
+            && entry.kinds() == [0, 9].as_slice()
+            && sizes == [3, 7, 5]
+    );
     Ok(())
 }
 
@@ -93,7 +106,7 @@ fn the_code_of_an_entry(rt: HostRuntime) -> Result<(), Fail> {
 fn the_codes_of_a_rule(rt: HostRuntime) -> Result<(), Fail> {
     let term = term(rt.alloc(), b"any(paid=>any(back=>Y),for=>Y)")?;
     let mut rule = Rule::new(rt.alloc(), 13)?;
-    assert_eq!(rt; rule.compile(&term), Ok(13));
+    let compiled = rule.compile(&term);
     let reads = [
         narrow(0, 0),
         Instruction::TestFeature {
@@ -127,29 +140,42 @@ fn the_codes_of_a_rule(rt: HostRuntime) -> Result<(), Fail> {
         back(1, 4),
         feature(0, FOR, 2),
     ];
-    assert_eq!(rt; rule.reads(), reads.as_slice());
-    assert_eq!(rt; rule.writes(), writes.as_slice());
-    assert_eq!(rt; rule.kinds(), [0, 0].as_slice());
-    assert_eq!(rt; rule.variables(), 3);
-    assert_eq!(rt; rule.features(), 7);
-    assert_eq!(rt; rule.statements().len(), 5);
+    let sizes = [rule.variables(), rule.features(), rule.statements().len()];
+    assert!(rt;
+        compiled == Ok(13)
+            && rule.reads() == reads.as_slice()
+            && rule.writes() == writes.as_slice()
+            && rule.kinds() == [0, 0].as_slice()
+            && sizes == [3, 7, 5]
+    );
     Ok(())
 }
 
 #[test]
-fn where_memory_is_shorter_than_the_code_all_is_left(rt: HostRuntime) -> Result<(), Fail> {
+fn where_memory_is_shorter_than_the_code_an_entry_is_left(rt: HostRuntime) -> Result<(), Fail> {
     let short = term(rt.alloc(), b"rent")?;
     let long = term(rt.alloc(), b"rent(paid=>fee)")?;
     let mut entry = Entry::new(rt.alloc(), 4)?;
-    assert_eq!(rt; entry.compile(&short), Ok(2));
-    assert_eq!(rt; entry.compile(&long), Err(Refusal::Memory));
-    assert_eq!(rt; entry.code(), [push(0), sort(0, 0)].as_slice());
-    assert_eq!(rt; entry.kinds(), [5].as_slice());
+    let compiled = [entry.compile(&short), entry.compile(&long)];
+    assert!(rt;
+        compiled == [Ok(2), Err(Refusal::Memory)]
+            && entry.code() == [push(0), sort(0, 0)].as_slice()
+            && entry.kinds() == [5].as_slice()
+    );
+    Ok(())
+}
+
+#[test]
+fn where_memory_is_shorter_than_the_codes_a_rule_is_left(rt: HostRuntime) -> Result<(), Fail> {
+    let short = term(rt.alloc(), b"rent")?;
+    let long = term(rt.alloc(), b"rent(paid=>fee)")?;
     let mut rule = Rule::new(rt.alloc(), 6)?;
-    assert_eq!(rt; rule.compile(&short), Ok(1));
-    assert_eq!(rt; rule.compile(&long), Err(Refusal::Memory));
-    assert_eq!(rt; rule.reads(), [narrow(0, 0)].as_slice());
-    assert!(rt; rule.writes().is_empty());
+    let compiled = [rule.compile(&short), rule.compile(&long)];
+    assert!(rt;
+        compiled == [Ok(1), Err(Refusal::Memory)]
+            && rule.reads() == [narrow(0, 0)].as_slice()
+            && rule.writes().is_empty()
+    );
     Ok(())
 }
 
@@ -158,9 +184,10 @@ fn where_memory_is_shorter_than_the_code_all_is_left(rt: HostRuntime) -> Result<
 fn no_memory_at_all(rt: HostRuntime) -> Result<(), Fail> {
     let bare = term(rt.alloc(), b"X")?;
     let mut entry = Entry::new(rt.alloc(), 0)?;
-    assert_eq!(rt; entry.code(), [push(0)].as_slice());
-    assert_eq!(rt; entry.compile(&bare), Err(Refusal::Memory));
     let mut rule = Rule::new(rt.alloc(), 0)?;
-    assert_eq!(rt; rule.compile(&bare), Ok(0));
+    assert!(rt;
+        entry.code() == [push(0)].as_slice()
+            && [entry.compile(&bare), rule.compile(&bare)] == [Err(Refusal::Memory), Ok(0)]
+    );
     Ok(())
 }

@@ -2,6 +2,8 @@
 #![tactic(auto)]
 
 #[cfg(test)]
+mod banded;
+#[cfg(test)]
 mod codes;
 #[cfg(test)]
 mod declared;

@@ -21,27 +21,32 @@ fn returned_by_direct_debit(rt: HostRuntime) -> Result<(), Fail> {
 
 #[test]
 fn kinds_that_meet(rt: HostRuntime) -> Result<(), Fail> {
-    let text = report(&TWO, b"1..9/0..0 5..20/-1..1", rt.alloc())?;
-    assert!(rt; text.as_slice() == b"1..9/0..0 and 5..20/-1..1: 5..9/0..0".as_slice());
-    let text = report(&TWO, b"1..9/0..0 5..20/1..1", rt.alloc())?;
-    assert!(rt; text.as_slice() == b"1..9/0..0 and 5..20/1..1: nothing can be both".as_slice());
+    for (line, text) in [
+        (
+            "1..9/0..0 5..20/-1..1",
+            "1..9/0..0 and 5..20/-1..1: 5..9/0..0",
+        ),
+        (
+            "1..9/0..0 5..20/1..1",
+            "1..9/0..0 and 5..20/1..1: nothing can be both",
+        ),
+    ] {
+        assert!(rt; report(&TWO, line.as_bytes(), rt.alloc())?.as_slice() == text.as_bytes());
+    }
     Ok(())
 }
 
 #[test]
 fn lines_that_are_refused(rt: HostRuntime) -> Result<(), Fail> {
     let long = [b'1'; 1001];
-    assert!(rt; report(&TWO, &long, rt.alloc())?.as_slice() == b"refused 1 0".as_slice());
-    assert!(rt;
-        report(&TWO, &long[..1000], rt.alloc())?.as_slice() == b"refused 2 1000".as_slice()
-    );
-    assert!(rt; report(&TWO, &[b'1', 255], rt.alloc())?.as_slice() == b"refused 2 1".as_slice());
-    assert!(rt;
-        report(&TWO, b"1..9 1..9/1..9", rt.alloc())?.as_slice() == b"refused 4 0".as_slice()
-    );
-    assert!(rt;
-        report(&TWO, b"1..9/1..9 1..9/1..9/1..9", rt.alloc())?.as_slice()
-            == b"refused 4 10".as_slice()
-    );
+    for (line, text) in [
+        (long.as_slice(), "refused 1 0"),
+        (&long[..1000], "refused 2 1000"),
+        (&[b'1', 255], "refused 2 1"),
+        (b"1..9 1..9/1..9", "refused 4 0"),
+        (b"1..9/1..9 1..9/1..9/1..9", "refused 4 10"),
+    ] {
+        assert!(rt; report(&TWO, line, rt.alloc())?.as_slice() == text.as_bytes());
+    }
     Ok(())
 }

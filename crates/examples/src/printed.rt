@@ -79,10 +79,12 @@ fn a_statement_is_added_to_a_text(rt: HostRuntime) -> Result<(), Fail> {
         feature: 7,
         value: 0,
     };
-    assert!(rt; statement_text(kind, rt.alloc())?.as_slice() == b"X1:1..9".as_slice());
-    assert!(rt; statement_text(back, rt.alloc())?.as_slice() == b"X1.back=X2".as_slice());
-    assert!(rt;
-        statement_text(last, rt.alloc())?.as_slice() == b"X18446744073709551616.?=X1".as_slice()
-    );
+    for (statement, text) in [
+        (kind, "X1:1..9"),
+        (back, "X1.back=X2"),
+        (last, "X18446744073709551616.?=X1"),
+    ] {
+        assert!(rt; statement_text(statement, rt.alloc())?.as_slice() == text.as_bytes());
+    }
     Ok(())
 }
