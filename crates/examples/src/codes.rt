@@ -52,9 +52,8 @@ fn back(depth: usize, label: usize) -> Instruction {
 #[test]
 fn a_new_entry_is_that_of_a_bare_name(rt: HostRuntime) -> Result<(), Fail> {
     let entry: Entry<usize> = Entry::new(rt.alloc(), 5)?;
-    let sizes = [entry.room(), entry.variables(), entry.features()];
     assert!(rt;
-        sizes == [5, 1, 0]
+        [entry.variables(), entry.features()] == [1, 0]
             && entry.code() == [push(0)].as_slice()
             && entry.kinds().is_empty()
             && entry.statements().is_empty()
@@ -65,11 +64,7 @@ fn a_new_entry_is_that_of_a_bare_name(rt: HostRuntime) -> Result<(), Fail> {
 #[test]
 fn a_new_rule_is_that_of_a_bare_name(rt: HostRuntime) -> Result<(), Fail> {
     let rule: Rule<usize> = Rule::new(rt.alloc(), 5)?;
-    assert!(rt;
-        [rule.room(), rule.variables()] == [5, 1]
-            && rule.reads().is_empty()
-            && rule.writes().is_empty()
-    );
+    assert!(rt; rule.variables() == 1 && rule.reads().is_empty() && rule.writes().is_empty());
     Ok(())
 }
 
