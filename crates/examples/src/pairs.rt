@@ -5,7 +5,6 @@ use orders::order::Order;
 use orders::pair::{Both, Pair};
 use orders::texts::WrittenOrder;
 use settings::amounts;
-use std::test::Fail;
 
 fn kind(number: usize, low: i64, high: i64) -> Both<usize, Band> {
     Both {
@@ -66,8 +65,23 @@ fn a_pair_is_written_where_both_parts_fit(rt: HostRuntime) {
     assert!(rt; written == [8, 8, 0, 0, 0, 0] && long == *b"fee/1..9??");
 }
 
+// Reads two kinds, and writes what they have in common: the bytes of the three texts. None also where the first is not what it and the
+// widest have in common.
+fn met<O: WrittenOrder>(order: &O, a: &[u8], b: &[u8], memory: &mut [u8]) -> Option<[usize; 3]>
+where
+    O::Kind: PartialEq,
+{
+    let (first, a_len) = order.read(a)?;
+    let (second, b_len) = order.read(b)?;
+    if order.common(first, order.widest()) != Some(first) {
+        return None;
+    }
+    let both = order.common(first, second)?;
+    Some([a_len, b_len, order.write(both, memory)])
+}
+
 #[test]
-fn pairs_of_pairs_are_orders_too(rt: HostRuntime) -> Result<(), Fail> {
+fn pairs_of_pairs_are_orders_too(rt: HostRuntime) {
     let order = Pair {
         first: amounts(),
         second: Pair {
@@ -75,21 +89,11 @@ fn pairs_of_pairs_are_orders_too(rt: HostRuntime) -> Result<(), Fail> {
             second: amounts(),
         },
     };
-    let (Some((line, 31)), Some((other, 30))) = (
-        order.read(b"by_dd/-10..0/0..5/returned/1..1"),
-        order.read(b"returned/0..5/3..9/by_dd/0..99"),
-    ) else {
-        return Err(Fail::new("not read"));
-    };
-    let Some(both) = order.common(line, other) else {
-        return Err(Fail::new("no common kind"));
-    };
-    let mut memory = [b'?'; 38];
-    let written = order.write(both, &mut memory);
+    let line = b"by_dd/-10..0/0..5/returned/1..1";
+    let other = b"returned/0..5/3..9/by_dd/0..99";
+    let mut memory = [b'?'; 40];
+    let read = met(&order, line, other, &mut memory);
     assert!(rt;
-        order.common(line, order.widest()) == Some(line)
-            && written == 38
-            && memory == *b"returned_dd/0..0/3..5/returned_dd/1..1"
+        read == Some([31, 30, 38]) && memory == *b"returned_dd/0..0/3..5/returned_dd/1..1??"
     );
-    Ok(())
 }
