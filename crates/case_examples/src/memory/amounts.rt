@@ -1,13 +1,11 @@
 // Cases over pairs: a kind and a band of amounts, and a kind and two bands.
-use super::{entered, kind, led, matched, memory_for, opened, rule};
-use crate::instances::nested::match_nested;
-use crate::instances::pair::match_amounts;
+use super::steps::Step::{Enter, Kind, Leads, Match, Places};
+use super::steps::take_in_new;
 use bands::band::Band;
 use bands::order::Bands;
 use kinds::list::shipped::shipped;
-use orders::order::Order;
 use orders::pair::{Both, Pair};
-use refusals::Refusal;
+use refusals::Refusal::Clash;
 use settings::amounts;
 use std::test::Fail;
 
@@ -21,51 +19,28 @@ const fn band(low: i64, high: i64) -> Band {
 #[test]
 fn forty_pounds(rt: HostRuntime) -> Result<(), Fail> {
     let order = amounts();
-    let heap = rt.alloc();
-    let mut memory = memory_for(heap, order.widest(), 16, 4)?;
-    let Ok(mut case) = opened(&order, &mut memory, 16) else {
-        return Err(Fail::new("no case"));
-    };
-    let line = b"debit/-4000..-4000(back=>debit/-4000..-1)";
-    assert_eq!(rt; entered(&order, heap, &mut memory, &mut case, line)?, Ok(2));
-    assert_eq!(rt;
-        matched(&order, heap, &mut memory, &mut case, b"any/1..9", 0)?,
-        Err(Refusal::Clash { statement: 1 })
-    );
-    let back = rule(&order, heap, b"debit/-5000..-1(back=>any/-4000..0)")?;
-    let mut places = [99; 2];
-    assert_eq!(rt;
-        match_amounts(
-            &order,
-            &mut case,
-            memory.cells.as_mut_slice(),
-            memory.slots.as_mut_slice(),
-            memory.pending.as_mut_slice(),
-            memory.spare_cells.as_mut_slice(),
-            memory.spare_slots.as_mut_slice(),
-            &back,
+    let steps = [
+        Enter(b"debit/-4000..-4000(back=>debit/-4000..-1)", Ok(2)),
+        Match(b"any/1..9", 0, Err(Clash { statement: 1 })),
+        Match(b"debit/-5000..-1(back=>any/-4000..0)", 0, Ok(2)),
+        Places(&[0, 1]),
+        Kind(
             0,
-            &mut places,
+            Ok(Both {
+                first: 2,
+                second: band(-4000, -4000),
+            }),
         ),
-        Ok(2)
-    );
-    assert!(rt; places == [0, 1]);
-    assert_eq!(rt;
-        kind(&order, &memory, case, 0),
-        Ok(Both {
-            first: 2,
-            second: band(-4000, -4000)
-        })
-    );
-    assert_eq!(rt; led(&order, &memory, case, 0, BACK), Ok(Some(1)));
-    assert_eq!(rt;
-        kind(&order, &memory, case, 1),
-        Ok(Both {
-            first: 2,
-            second: band(-4000, -1)
-        })
-    );
-    Ok(())
+        Leads(0, BACK, Ok(Some(1))),
+        Kind(
+            1,
+            Ok(Both {
+                first: 2,
+                second: band(-4000, -1),
+            }),
+        ),
+    ];
+    take_in_new(&rt, &order, rt.alloc(), 16, 2, &steps)
 }
 
 #[test]
@@ -77,57 +52,18 @@ fn a_kind_and_two_bands(rt: HostRuntime) -> Result<(), Fail> {
             second: Bands,
         },
     };
-    let heap = rt.alloc();
-    let mut memory = memory_for(heap, order.widest(), 4, 1)?;
-    let Ok(mut case) = opened(&order, &mut memory, 4) else {
-        return Err(Fail::new("no case"));
+    let narrowed = Both {
+        first: 6,
+        second: Both {
+            first: band(0, 5),
+            second: band(3, 9),
+        },
     };
-    assert_eq!(rt;
-        entered(&order, heap, &mut memory, &mut case, b"debit/-5..5/0..9")?,
-        Ok(1)
-    );
-    let apart = rule(&order, heap, b"any/0..9/10..20")?;
-    let within = rule(&order, heap, b"returned/0..9/3..20")?;
-    let mut places = [99];
-    assert_eq!(rt;
-        match_nested(
-            &order,
-            &mut case,
-            memory.cells.as_mut_slice(),
-            memory.slots.as_mut_slice(),
-            memory.pending.as_mut_slice(),
-            memory.spare_cells.as_mut_slice(),
-            memory.spare_slots.as_mut_slice(),
-            &apart,
-            0,
-            &mut places,
-        ),
-        Err(Refusal::Clash { statement: 1 })
-    );
-    assert_eq!(rt;
-        match_nested(
-            &order,
-            &mut case,
-            memory.cells.as_mut_slice(),
-            memory.slots.as_mut_slice(),
-            memory.pending.as_mut_slice(),
-            memory.spare_cells.as_mut_slice(),
-            memory.spare_slots.as_mut_slice(),
-            &within,
-            0,
-            &mut places,
-        ),
-        Ok(1)
-    );
-    assert_eq!(rt;
-        kind(&order, &memory, case, 0),
-        Ok(Both {
-            first: 6,
-            second: Both {
-                first: band(0, 5),
-                second: band(3, 9)
-            },
-        })
-    );
-    Ok(())
+    let steps = [
+        Enter(b"debit/-5..5/0..9", Ok(1)),
+        Match(b"any/0..9/10..20", 0, Err(Clash { statement: 1 })),
+        Match(b"returned/0..9/3..20", 0, Ok(1)),
+        Kind(0, Ok(narrowed)),
+    ];
+    take_in_new(&rt, &order, rt.alloc(), 4, 1, &steps)
 }

@@ -1,66 +1,69 @@
 // The worked examples that follow forty pounds, run against the code: an entry, a rule, and the answer.
-use super::{entered, matched, memory_for, opened};
+use super::steps::Step::{Enter, Match};
+use super::steps::{Step, take_in_new};
 use kinds::list::shipped::shipped;
-use refusals::Refusal;
+use refusals::Refusal::{Clash, Full};
 use std::test::Fail;
 
-// The line, the rule, how many cells the case has, and the answer to the rule.
-const ROWS: [(&[u8], &[u8], u8, Result<usize, Refusal>); 8] = [
+// How many cells the case has, and the entry and the rule with their answers.
+const ROWS: [(u8, [Step<usize>; 2]); 8] = [
     (
-        b"returned_dd",
-        b"receipt",
         8,
-        Err(Refusal::Clash { statement: 1 }),
+        [
+            Enter(b"returned_dd", Ok(1)),
+            Match(b"receipt", 0, Err(Clash { statement: 1 })),
+        ],
     ),
-    (b"by_dd", b"returned", 8, Ok(1)),
+    (8, [Enter(b"by_dd", Ok(1)), Match(b"returned", 0, Ok(1))]),
     (
-        b"any(paid=>by_dd,back=>returned)",
-        b"any(paid=>Y,back=>Y)",
         8,
-        Ok(3),
-    ),
-    (
-        b"any(paid=>returned_dd)",
-        b"any(paid=>fee)",
-        8,
-        Err(Refusal::Clash { statement: 3 }),
+        [
+            Enter(b"any(paid=>by_dd,back=>returned)", Ok(3)),
+            Match(b"any(paid=>Y,back=>Y)", 0, Ok(3)),
+        ],
     ),
     (
-        b"any(a=>any(f=>credit),b=>any(f=>debit))",
-        b"any(a=>Y,b=>Y)",
         8,
-        Err(Refusal::Clash { statement: 3 }),
+        [
+            Enter(b"any(paid=>returned_dd)", Ok(2)),
+            Match(b"any(paid=>fee)", 0, Err(Clash { statement: 3 })),
+        ],
     ),
-    (b"any", b"any(paid=>any,back=>any,for=>any)", 4, Ok(4)),
     (
-        b"any",
-        b"any(paid=>any,back=>any,for=>any,next=>any)",
+        8,
+        [
+            Enter(b"any(a=>any(f=>credit),b=>any(f=>debit))", Ok(5)),
+            Match(b"any(a=>Y,b=>Y)", 0, Err(Clash { statement: 3 })),
+        ],
+    ),
+    (
         4,
-        Err(Refusal::Full),
+        [
+            Enter(b"any", Ok(1)),
+            Match(b"any(paid=>any,back=>any,for=>any)", 0, Ok(4)),
+        ],
     ),
     (
-        b"any",
-        b"any(paid=>any,back=>any,for=>any,next=>any)",
+        4,
+        [
+            Enter(b"any", Ok(1)),
+            Match(b"any(paid=>any,back=>any,for=>any,next=>any)", 0, Err(Full)),
+        ],
+    ),
+    (
         5,
-        Ok(5),
+        [
+            Enter(b"any", Ok(1)),
+            Match(b"any(paid=>any,back=>any,for=>any,next=>any)", 0, Ok(5)),
+        ],
     ),
 ];
 
 #[test]
 fn the_worked_examples_come_out_as_the_table_says(rt: HostRuntime) -> Result<(), Fail> {
     let order = shipped();
-    for (line, rule, cells, answer) in ROWS {
-        let mut memory = memory_for(rt.alloc(), 0, cells, 8)?;
-        match opened(&order, &mut memory, cells) {
-            Ok(mut case) => {
-                if entered(&order, rt.alloc(), &mut memory, &mut case, line)?.is_err() {
-                    return Err(Fail::new("a line is not entered"));
-                }
-                let told = matched(&order, rt.alloc(), &mut memory, &mut case, rule, 0)?;
-                assert!(rt; told == answer);
-            }
-            Err(_) => return Err(Fail::new("no case")),
-        }
+    for (cells, steps) in &ROWS {
+        take_in_new(&rt, &order, rt.alloc(), *cells, 8, steps)?;
     }
     Ok(())
 }
