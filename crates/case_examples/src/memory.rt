@@ -1,17 +1,19 @@
-// A case in its memory. `steps` has what the tests are tables of: calls, each with the answer that is wanted.
+// A case in its memory, and the entry and the rule of a line. `steps` has what the tests are tables of: calls, each with the answer that is
+// wanted.
 use cases::case::Case;
 use cases::open;
+use compiler::entry::Entry;
+use compiler::rule::Rule;
 use joining::cell::Cell;
 use orders::order::Order;
+use orders::texts::WrittenOrder;
+use settings::features;
 use std::alloc::Global;
 use std::test::Fail;
+use terms::term::Term;
 
-mod amounts;
-mod kinds_alone;
-mod lines;
 mod matching;
 mod steps;
-mod table;
 
 // The features of `settings`.
 const FEATURES: usize = 7;
@@ -76,4 +78,35 @@ fn opened<O: Order>(order: &O, heap: Global, cells: u8, places: u8) -> Result<He
         }
         Err(_) => Err(Fail::new("no case")),
     }
+}
+
+fn reads<O: WrittenOrder>(order: &O, term: &mut Term<O::Kind>, line: &[u8]) -> bool {
+    term.read(order, &features(), line).is_ok()
+}
+
+fn term<O: WrittenOrder>(order: &O, heap: Global, line: &[u8]) -> Result<Term<O::Kind>, Fail> {
+    let mut term = Term::new(heap, 399)?;
+    if reads(order, &mut term, line) {
+        Ok(term)
+    } else {
+        Err(Fail::new("a line is refused"))
+    }
+}
+
+fn entry<O: WrittenOrder>(order: &O, heap: Global, line: &[u8]) -> Result<Entry<O::Kind>, Fail> {
+    let term = term(order, heap, line)?;
+    let mut entry = Entry::new(heap, 599)?;
+    if entry.compile(&term).is_err() {
+        return Err(Fail::new("an entry is not compiled"));
+    }
+    Ok(entry)
+}
+
+fn rule<O: WrittenOrder>(order: &O, heap: Global, line: &[u8]) -> Result<Rule<O::Kind>, Fail> {
+    let term = term(order, heap, line)?;
+    let mut rule = Rule::new(heap, 1196)?;
+    if rule.compile(&term).is_err() {
+        return Err(Fail::new("a rule is not compiled"));
+    }
+    Ok(rule)
 }

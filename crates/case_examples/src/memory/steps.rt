@@ -1,13 +1,16 @@
 // Tables of steps: calls in a case, and what is looked at in its memory, each with the answer that is wanted.
-use super::lines::{entry, rule};
 use super::matching::Matching;
-use super::{Held, opened, places_for};
+use super::{Held, entry, opened, places_for, rule};
 use cases::{enter, kind_at, leads_to};
 use compiler::entry::Entry;
 use refusals::Refusal;
 use std::alloc::Global;
 use std::process::Abort;
 use std::test::Fail;
+
+mod amounts;
+mod kinds_alone;
+mod table;
 
 #[derive(Drop)]
 pub enum Step<'a, K> {
@@ -113,7 +116,7 @@ fn comes_out<O: Matching>(
 }
 
 // Takes the steps, numbered from 0 on, and asserts of each that it comes out as is wanted.
-pub fn take<O: Matching>(
+fn take<O: Matching>(
     rt: &impl Abort,
     order: &O,
     heap: Global,
@@ -127,7 +130,7 @@ pub fn take<O: Matching>(
 }
 
 // The same in a new case of so many cells, with a place list of so many places.
-pub fn take_in_new<O: Matching>(
+fn take_in_new<O: Matching>(
     rt: &impl Abort,
     order: &O,
     heap: Global,

@@ -1,6 +1,6 @@
 // The worked examples that follow forty pounds, run against the code: an entry, a rule, and the answer.
-use super::steps::Step::{Enter, Match};
-use super::steps::{Step, take_in_new};
+use super::Step::{Enter, Match};
+use super::{Step, take_in_new};
 use kinds::list::shipped::shipped;
 use refusals::Refusal::{Clash, Full};
 use std::test::Fail;

@@ -1,7 +1,7 @@
 // Cases over the shipped list of kinds alone.
-use super::steps::Step::{Enter, Kind, Leads, Lend, Match, Places, Refers, Used};
-use super::steps::{take, take_in_new};
-use super::{Held, opened};
+use super::Step::{Enter, Kind, Leads, Lend, Match, Places, Refers, Used};
+use super::{take, take_in_new};
+use crate::memory::{Held, opened};
 use joining::cell;
 use kinds::list::shipped::shipped;
 use refusals::Refusal::{Cell, Clash, Feature, Full};

@@ -1,6 +1,6 @@
 // Cases over pairs: a kind and a band of amounts, and a kind and two bands.
-use super::steps::Step::{Enter, Kind, Leads, Match, Places};
-use super::steps::take_in_new;
+use super::Step::{Enter, Kind, Leads, Match, Places};
+use super::take_in_new;
 use bands::band::Band;
 use bands::order::Bands;
 use kinds::list::shipped::shipped;
