@@ -1,7 +1,7 @@
 -- What the compiler keeps agrees, statement by statement, with what a lawful list of statements leaves open.
-use Rattle.std.proofs.Common.{◌≡◌, ℕ, suc, ◌<◌, ◌≤◌, Bool, true, false, not, ◌&&◌, List, [], ◌∷◌, length, get_or, sym, refl, ap, ◌∙◌, inl, inr, arith, nat_le, nat_lt, leb-true, ltb-true}
+use Rattle.std.proofs.Common.{◌≡◌, ℕ, suc, ◌<◌, ◌≤◌, true, false, not, ◌&&◌, List, [], ◌∷◌, length, get_or, sym, refl, ap, ◌∙◌, inl, inr, arith, nat_le, nat_lt, leb-true, ltb-true}
 use Rattle.std.proofs.lemmas.List.{get_or_push, length_push}
-use Rattle.std.proofs.lemmas.Bool.{and_parts, cases_eq, eq-eqb, eqb-true, ne_eqb, both_ways}
+use Rattle.std.proofs.lemmas.Bool.{and_parts, cases_eq, eq-eqb, eqb-true, ne_eqb, not-true, both_ways}
 use Rattle.declarations.specs.Declarations.{among}
 use Rattle.grammar.specs.declared.statement.Statement.{Statement}
 use Rattle.grammar.specs.declared.statement.Statement.TheVariants.{Kind, Feature}
@@ -34,11 +34,7 @@ module _ (n x f y : ℕ) (o : Open) (K : Type 0) (m : may_come {K = K} n (Featur
   parts = and_parts (not (has x f o.features)) _ ((and_parts (among x o.path) _ m).1)
 
   pub untold : has x f o.features ≡ false
-  untold = flip (has x f o.features) parts.0
-    where
-      flip : (b : Bool) → not b ≡ true → b ≡ false
-      flip true e = sym e
-      flip false e = refl
+  untold = not-true (has x f o.features) parts.0
 
   pub value_met : y ≤ o.count
   value_met = leb-true y o.count ((and_parts (nat_le y o.count) (nat_lt f n) parts.1).0)

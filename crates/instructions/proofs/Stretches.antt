@@ -1,6 +1,6 @@
 -- A stretch of writing: the variables that are met in it have cells of their own, of which nothing is told but what the statements said.
-use Rattle.std.proofs.Common.{◌≡◌, ℕ, ◌+◌, ◌<◌, ◌≤◌, Bool, true, false, ◌||◌, ◌&&◌, eqb, List, ◌∷◌, length, Some, None, Option, refl, ap, arith, ◌≢◌}
-use Rattle.std.proofs.lemmas.Bool.{both_ways, eq-eqb}
+use Rattle.std.proofs.Common.{◌≡◌, ℕ, ◌+◌, ◌<◌, ◌≤◌, true, false, ◌&&◌, eqb, List, ◌∷◌, length, Some, None, Option, refl, ap, arith, ◌≢◌}
+use Rattle.std.proofs.lemmas.Bool.{both_ways, eq-eqb, or_parts}
 use Rattle.orders.specs.Meaning.{Meaning, IsCommon}
 use Rattle.grammar.specs.Lawful.{Open, innermost, has}
 use Rattle.joining.specs.Heap.{refers, kind, slot}
@@ -51,11 +51,7 @@ module _ {K : Type 0} (m : Meaning K) where
 -- of a feature that is not told yet, nothing was told before either, and it is no other than the last
 pub has_before : (z g x f : ℕ) (ps : List (ℕ × ℕ)) → has z g ((x, f) ∷ ps) ≡ false → has z g ps ≡ false
 unfolding has
-has_before z g x f ps h = or_none (eqb z x && eqb g f) (has z g ps) h
-  where
-    or_none : (a b : Bool) → (a || b) ≡ false → b ≡ false
-    or_none true b e = absurd (both_ways _ e refl)
-    or_none false b e = e
+has_before z g x f ps h = (or_parts (eqb z x && eqb g f) (has z g ps) h).1
 
 pub has_last : (z g x f : ℕ) (ps : List (ℕ × ℕ)) → has z g ((x, f) ∷ ps) ≡ false → z ≡ x → g ≢ f
 unfolding has

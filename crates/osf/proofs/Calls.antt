@@ -1,6 +1,6 @@
 -- The calls by their cases: refused with all as it was, or let through.
-use Rattle.std.proofs.Common.{◌≡◌, ℕ, ◌+◌, ◌-◌, ◌<◌, ◌≤◌, Bool, true, false, cond, not, ◌||◌, List, [], length, Ok, Err, Result, nat_lt, nat_le, refl, sym, arith, ltb-false, leb-false}
-use Rattle.std.proofs.lemmas.Bool.{both_ways}
+use Rattle.std.proofs.Common.{◌≡◌, ℕ, ◌+◌, ◌-◌, ◌<◌, ◌≤◌, Bool, true, false, cond, not, ◌||◌, List, [], length, Ok, Err, Result, nat_lt, nat_le, refl, arith, ltb-false, leb-false}
+use Rattle.std.proofs.lemmas.Bool.{not-false, or_parts}
 use Rattle.refusals.specs.declared.Refusal.{Refusal}
 use Rattle.refusals.specs.declared.Refusal.TheVariants.{Memory, Cell, Feature, Full}
 use Rattle.orders.specs.Meaning.{Meaning}
@@ -20,14 +20,6 @@ by_test : {X : Type 0} (P : X → Type 0) (b : Bool) (x y : X) → (b ≡ true �
 by_test P true x y p q = p refl
 by_test P false x y p q = q refl
 
-or_false : (a b : Bool) → (a || b) ≡ false → (a ≡ false) × (b ≡ false)
-or_false true b e = absurd (both_ways true e refl)
-or_false false b e = (refl, e)
-
-not_false : (b : Bool) → not b ≡ false → b ≡ true
-not_false true e = refl
-not_false false e = sym e
-
 module _ {K : Type 0} (m : Meaning K) (l : Lent) (h : Heap K) (P : Left K → Type 0) where
   -- what is refused before it is let through leaves all as it was
   abbrev pub RefusedSo : List ℕ → Type 0
@@ -41,8 +33,8 @@ module _ {K : Type 0} (m : Meaning K) (l : Lent) (h : Heap K) (P : Left K → Ty
         (λ e. by_test P (out_of_range h ss places) _ _ (λ e. refusing Feature (λ x. x))
         (λ r. by_test P (nat_lt (length h.cells) (h.used + variables_of ss)) _ _ (λ e. refusing Full (λ x. x))
         (λ f.
-        let (b, p) = or_false (not (features_below h.features ss)) (nat_lt (length places) (variables_of ss)) r in
-        through (lawful_over n h.features ss term (not_false _ b)) (all_fit n h.features ss term (not_false _ b)) (omega (arith, ltb-false _ _ f, all_met ss)) (omega (arith, ltb-false _ _ p)))))
+        let (b, p) = or_parts (not (features_below h.features ss)) (nat_lt (length places) (variables_of ss)) r in
+        through (lawful_over n h.features ss term (not-false _ b)) (all_fit n h.features ss term (not-false _ b)) (omega (arith, ltb-false _ _ f, all_met ss)) (omega (arith, ltb-false _ _ p)))))
 
     pub matches_by : (i : ℕ)
         → (i < h.used → lawful h.features ss ≡ true → AllFit h.features 1 ss → h.used + met_by 1 ss ≤ length h.cells + 1 → variables_of ss ≤ length places → P (accepted_if (match_at m ss (most_turns ss) h i) h places))
@@ -53,11 +45,11 @@ module _ {K : Type 0} (m : Meaning K) (l : Lent) (h : Heap K) (P : Left K → Ty
         (λ c. by_test P (out_of_range h ss places) _ _ (λ e. refusing Feature (λ x. x))
         (λ r. by_test P (nat_lt (length h.cells) (h.used + variables_of ss - 1)) _ _ (λ e. refusing Full (λ x. x))
         (λ f.
-        let (b, p) = or_false (not (features_below h.features ss)) (nat_lt (length places) (variables_of ss)) r in
-        through (omega (arith, leb-false _ _ c)) (lawful_over n h.features ss term (not_false _ b)) (all_fit n h.features ss term (not_false _ b)) (omega (arith, ltb-false _ _ f, all_met ss)) (omega (arith, ltb-false _ _ p))))))
+        let (b, p) = or_parts (not (features_below h.features ss)) (nat_lt (length places) (variables_of ss)) r in
+        through (omega (arith, leb-false _ _ c)) (lawful_over n h.features ss term (not-false _ b)) (all_fit n h.features ss term (not-false _ b)) (omega (arith, ltb-false _ _ f, all_met ss)) (omega (arith, ltb-false _ _ p))))))
 
   pub joins_by : (i j : ℕ) → RefusedSo [] → (i < h.used → j < h.used → P (joined_if (join m i j h) h)) → P (joins m l i j h)
   joins_by i j refusing through =
       by_test P (too_short l h) _ _ (λ e. refusing Memory (λ x. x))
       (λ e. by_test P (nat_le h.used i || nat_le h.used j) _ _ (λ e. refusing Cell (λ x. x))
-      (λ c. let (a, b) = or_false (nat_le h.used i) (nat_le h.used j) c in through (omega (arith, leb-false _ _ a)) (omega (arith, leb-false _ _ b))))
+      (λ c. let (a, b) = or_parts (nat_le h.used i) (nat_le h.used j) c in through (omega (arith, leb-false _ _ a)) (omega (arith, leb-false _ _ b))))
