@@ -1,5 +1,5 @@
 -- A band's text is what stands before the first stop.
-use Rattle.std.proofs.Common.{◌≡◌, ℕ, true, false, List, take, Some, None, sym}
+use Rattle.std.proofs.Common.{◌≡◌, ℕ, true, false, List, take, Some, None}
 use Rattle.std.specs.List.{AllByRecursion}
 use Rattle.std.specs.Str.{IsUtf8}
 use Rattle.std.proofs.ByRecursion.{All-weaker}
@@ -17,19 +17,19 @@ single b t e =
     let p = text_written b t e in
     rw p.1 (All-weaker (λ c. part_byte c ≡ true) (λ c. stops c ≡ false) (λ c h. not_from_true (part_byte c) h) (written b) (written_letters b p.0))
 
+-- bytes that are no text at all are the text of no band
+pub no_text : (t : List ℕ) → (IsUtf8 t → ⊥) → ReadsText t None
+no_text t h = record { found = λ b e. absurd (h (text_utf8 t b e)); stands = λ b e. absurd (none-some b e) }
+
 module _ (bytes : List ℕ) (n : ℕ) (s : Stopped bytes n) where
   pub none_back : ReadsText (take n bytes) None → Back texts bytes None
   none_back r = singles.none_back texts single bytes n s (λ b. (r.found b, r.stands b))
 
-  -- what stands there is no text at all
-  pub none_text : (IsUtf8 (take n bytes) → ⊥) → Back texts bytes None
-  none_text h = none_back (record { found = λ b e. absurd (h (text_utf8 (take n bytes) b e)); stands = λ b e. absurd (none-some b e) })
+  pub some_back : (band : Band) → ReadsText (take n bytes) (Some band) → Back texts bytes (Some (band, n))
+  some_back band r = singles.some_back texts single bytes n s band (λ b. (r.found b, r.stands b))
 
-  pub some_back : (u : List ℕ) (band : Band) → u ≡ take n bytes → ReadsText u (Some band) → Back texts bytes (Some (band, n))
-  some_back u band e r = singles.some_back texts single bytes n s band (rw (sym e) (λ b. (r.found b, r.stands b)))
-
-  pub some_taken : (u : List ℕ) (band : Band) → u ≡ take n bytes → ReadsText u (Some band) → Stands texts bytes band n
-  some_taken u band e r = singles.some_taken texts single bytes n s band (rw (sym e) (λ b. (r.found b, r.stands b)))
+  pub some_taken : (band : Band) → ReadsText (take n bytes) (Some band) → Stands texts bytes band n
+  some_taken band r = singles.some_taken texts single bytes n s band (λ b. (r.found b, r.stands b))
 
 -- the answer of `read_band` in each of its cases
-pub ruleset read_cases = (none_back, none_text, some_back, some_taken)
+pub ruleset read_cases = (none_back, some_back, some_taken)

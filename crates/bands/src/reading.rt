@@ -30,6 +30,14 @@ fn parsed(text: &str) -> Option<Band>
     band.is_band().then_some(band)
 }
 
+// The band whose text these bytes are.
+#[tactic(auto, using(crate::proofs::Stopped::no_text))]
+fn band_of(bytes: &[u8]) -> Option<Band>
+    ensures { ReadsText bytes.now result }
+{
+    parsed(str::from_utf8(bytes).ok()?)
+}
+
 // The band whose text stands first, up to where texts stop, and the bytes taken.
 #[tactic(auto, using(crate::proofs::Stopped::read_cases))]
 pub fn read_band(bytes: &[u8]) -> Option<(Band, usize)>
@@ -37,6 +45,5 @@ pub fn read_band(bytes: &[u8]) -> Option<(Band, usize)>
     ensures taken { Taken texts bytes.now result }
 {
     let end = stop(bytes);
-    let text = str::from_utf8(&bytes[..end]).ok()?;
-    Some((parsed(text)?, end))
+    Some((band_of(&bytes[..end])?, end))
 }

@@ -2,10 +2,7 @@
 //
 // `match_kinds`, `match_amounts`, `match_nested`   matching over these orders
 //
-// The tests, to be read first: the worked examples as a table of entries, rules and answers that is run against the code, and what
-// else a case may come to.
+// They are run in the tests of the crate `examples`.
 #![tactic(auto)]
 
 pub mod instances;
-#[cfg(test)]
-mod memory;

@@ -1,6 +1,9 @@
-// Worked examples over orders, lists of kinds, bands, pairs, features, terms, codes and texts: all of them tests, to be read first.
+// Worked examples over orders, lists of kinds, bands, pairs, features, terms, codes, cases, trials, files and texts: all of them tests, to
+// be read first.
 #![tactic(auto)]
 
+#[cfg(test)]
+mod answered;
 #[cfg(test)]
 mod banded;
 #[cfg(test)]
@@ -14,6 +17,8 @@ mod held;
 #[cfg(test)]
 mod lists;
 #[cfg(test)]
+mod memory;
+#[cfg(test)]
 mod narrowed;
 #[cfg(test)]
 mod pairs;
@@ -23,3 +28,5 @@ mod printed;
 mod scanned;
 #[cfg(test)]
 mod set;
+#[cfg(test)]
+mod tried;

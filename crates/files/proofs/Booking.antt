@@ -1,5 +1,5 @@
 -- A file section by section, once its list is closed; and from its start.
-use Rattle.std.proofs.Common.{◌≡◌, ℕ, List, [], ◌∷◌, Ok, Err, Result, refl, sym, subst}
+use Rattle.std.proofs.Common.{◌≡◌, ℕ, List, [], ◌∷◌, Ok, Err, Result, refl, subst}
 use Rattle.refusals.specs.declared.Refusal.{Refusal}
 use Rattle.orders.specs.Texts.{Texts}
 use Rattle.declarations.specs.Declarations.{Declaration, any}
@@ -29,30 +29,31 @@ module _ {K : Type 0} (texts : Closing → Texts K) (file : List ℕ) where
         rules_refused e h = (Ok (fs, entries_at), hf, (Ok (es, rules_at), he, (Err e, h, same_refusal e)))
 
         module _ (us : List (List (Said K))) (end : ℕ) (hu : Section (TakesTerm (texts l) fs) 200 file rules_at [] (Ok (us, end))) where
-          ends : (o : Result (Unit {0}) Refusal) → over file end ≡ o → (r : Result (Contents K) Refusal)
+          ends : (o : Result (Unit {0}) Refusal) → o ≡ over file end → (r : Result (Contents K) Refusal)
               → Then o (λ _. r ≡ Ok (record { list = l; features = fs; entries = es; rules = us })) r → Lists texts file s l r
           ends o e r h =
-              (Ok (fs, entries_at), hf, (Ok (es, rules_at), he, (Ok (us, end), hu, subst (λ o. Then o (λ _. r ≡ Ok (record { list = l; features = fs; entries = es; rules = us })) r) (sym e) h)))
+              (Ok (fs, entries_at), hf, (Ok (es, rules_at), he, (Ok (us, end), hu, subst (λ o. Then o (λ _. r ≡ Ok (record { list = l; features = fs; entries = es; rules = us })) r) e h)))
 
-          pub end_refused : (e : Refusal) → over file end ≡ Err e → Lists texts file s l (Err e)
+          pub end_refused : (e : Refusal) → Err e ≡ over file end → Lists texts file s l (Err e)
           end_refused e q = ends (Err e) q (Err e) (same_refusal e)
 
-          pub all_read : over file end ≡ Ok tt → Lists texts file s l (Ok (record { list = l; features = fs; entries = es; rules = us }))
+          pub all_read : Ok tt ≡ over file end → Lists texts file s l (Ok (record { list = l; features = fs; entries = es; rules = us }))
           all_read q = ends (Ok tt) q (Ok (record { list = l; features = fs; entries = es; rules = us })) refl
 
-  starts : (o : Result (Unit {0}) Refusal) → short file ≡ o → (r : Result (Contents K) Refusal)
+  starts : (o : Result (Unit {0}) Refusal) → o ≡ short file → (r : Result (Contents K) Refusal)
       → Then o (λ _. (k : Result (List Declaration × ℕ) Refusal) × Section (kind_lines.Declares 64) 63 file 0 (any ∷ []) k × Then k (λ ks.
       (l : Result Closing Refusal) × Closed ks.0 l × Then l (λ list. Lists texts file ks.1 list r) r) r) r → File texts file r
   starts o e r h =
       subst (λ o. Then o (λ _. (k : Result (List Declaration × ℕ) Refusal) × Section (kind_lines.Declares 64) 63 file 0 (any ∷ []) k × Then k (λ ks.
-      (l : Result Closing Refusal) × Closed ks.0 l × Then l (λ list. Lists texts file ks.1 list r) r) r) r) (sym e) h
+      (l : Result Closing Refusal) × Closed ks.0 l × Then l (λ list. Lists texts file ks.1 list r) r) r) r) e h
 
-  module _ (fits : short file ≡ Ok tt) (ds : List Declaration) (features_at : ℕ) (hk : Section (kind_lines.Declares 64) 63 file 0 (any ∷ []) (Ok (ds, features_at))) where
+  module _ (fits : Ok tt ≡ short file) (ds : List Declaration) (features_at : ℕ) (hk : Section (kind_lines.Declares 64) 63 file 0 (any ∷ []) (Ok (ds, features_at))) where
     pub closed_read : (l : Closing) → Closed ds (Ok l) → (r : Result (Contents K) Refusal) → Lists texts file features_at l r → File texts file r
     closed_read l c r h = starts (Ok tt) fits r (Ok (ds, features_at), hk, (Ok l, c, h))
 
     -- what is read once the list is closed makes what the file says
     pub file_read : {O : Type 0} (made : Closing → O) (l : Closing) → Closed ds (Ok l) → (r : Result (Book K O) Refusal) → ListsRead made texts file features_at l r → FileRead made texts file r
+    unfolding FileRead
     file_read made l c (Ok b) h = (l, h.0, closed_read l c (Ok (contents made texts l b)) h.1)
     file_read made l c (Err e) h = closed_read l c (Err e) h
 

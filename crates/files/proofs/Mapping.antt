@@ -47,6 +47,7 @@ module _ {S U : Type 0} (Takes : S → List ℕ → S → Result ℕ Refusal →
       go again y a (Err e) j next h = rw h (refl, tt)
 
   pub section_mapped : (limit s : ℕ) (x : S) (r : Result (S × ℕ) Refusal) → ((n : ℕ) → n ≤ limit → Keeps n x) → Section Takes limit file s x r → Section Gives limit file s (f x) (mapped f r) × Ended r
+  unfolding Section
   section_mapped limit s x r h (a, c, after) =
       let (rest, end) = go (judged file s a) refl after in
       ((a, c, rest), end)

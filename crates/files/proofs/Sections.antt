@@ -1,5 +1,5 @@
 -- The sections of a file, by what the memory has that they are taken into.
-use Rattle.std.proofs.Common.{◌≡◌, ℕ, suc, ◌+◌, ◌≤◌, List, Ok, Result, refl, sym, ◌∙◌, subst, Vec, vec_items, arith}
+use Rattle.std.proofs.Common.{◌≡◌, ℕ, suc, ◌+◌, ◌≤◌, List, [], map, Ok, Result, refl, sym, ◌∙◌, subst, Vec, vec_items, arith}
 use Rattle.std.specs.Borrow.{Bor}
 use Rattle.std.specs.Result.{IfOk}
 use Rattle.refusals.specs.declared.Refusal.{Refusal}
@@ -11,6 +11,7 @@ use Rattle.features.specs.Model.{feature_names}
 use Rattle.kinds.specs.declared.draft.Draft.{Draft}
 use Rattle.kinds.specs.Lists.{drafted}
 use Rattle.terms.specs.declared.term.Term.{Term}
+use Rattle.terms.specs.Terms.{said_of}
 use Rattle.files.specs.Files.{Section, TakesTerm}
 use Rattle.files.specs.Model.{mapped}
 use Rattle.files.specs.Shelves.{Empty, Filled, After, Takes, terms_of}
@@ -52,3 +53,8 @@ module _ {K O : Type 0} (texts : O → Texts K) (order : Bor O) (features : Bor 
 
   pub begins : (terms : Vec (Term K) _) → Empty (vec_items terms) → Keeps 200 (record { order = order; features = features; terms = terms; filled = 0 })
   begins terms e = record { room = omega arith; rooms = e; order_is = refl; features_are = refl }
+
+  -- the terms past those that were read are cut off
+  pub cut_off : (file : List ℕ) (s next : ℕ) (terms read : List (Term K)) → read ≡ terms → Section (TakesTerm (texts order.now) (feature_names features.now)) 200 file s [] (Ok (map said_of terms, next))
+      → Section (TakesTerm (texts order.now) (feature_names features.now)) 200 file s [] (Ok (map said_of read, next))
+  cut_off file s next terms read is h = subst (λ ts. Section (TakesTerm (texts order.now) (feature_names features.now)) 200 file s [] (Ok (map said_of ts, next))) (sym is) h

@@ -18,7 +18,7 @@ use Rattle.files.specs.Lines.{text_at, judged, Then, Lines}
 use Rattle.files.specs.Counts.{Counts}
 
 -- a section that begins at s: its count, and so many lines
-abbrev pub Section : {S : Type 0} → (S → List ℕ → S → Result ℕ Refusal → Type 0) → ℕ → List ℕ → ℕ → S → Result (S × ℕ) Refusal → Type 0
+unfoldable pub Section : {S : Type 0} → (S → List ℕ → S → Result ℕ Refusal → Type 0) → ℕ → List ℕ → ℕ → S → Result (S × ℕ) Refusal → Type 0
 Section Takes limit file s x r =
     (a : Result ℕ Refusal) × Counts limit (text_at file s) a × Then (judged file s a) (λ p. Lines Takes file p.0 p.1 x r) r
 

@@ -24,6 +24,6 @@ module _ {K O : Type 0} (made : Closing → O) (texts : Closing → Texts K) whe
   ListsRead file s l (Err e) = Lists texts file s l (Err e)
 
   -- a book whose order is made of the file's list, with all that the file says; or the file's refusal
-  abbrev pub FileRead : List ℕ → Result (Book K O) Refusal → Type 0
+  unfoldable pub FileRead : List ℕ → Result (Book K O) Refusal → Type 0
   FileRead file (Ok b) = (l : Closing) × (b.order ≡ made l) × File texts file (Ok (contents l b))
   FileRead file (Err e) = File texts file (Err e)

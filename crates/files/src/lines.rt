@@ -231,6 +231,7 @@ fn count_at(file: &[u8], place: usize, limit: usize) -> Result<(usize, usize), R
 }
 
 // Takes the section that begins at a place.
+#[tactic(auto, unfolding(crate::specs::Files::Section))]
 fn take_section<S: Section>(
     section: &mut S,
     limit: usize,

@@ -2,6 +2,7 @@
 use Rattle.std.proofs.Common.{◌≡◌, ℕ, ◌+◌, ◌≤◌, true, false, eqb, List, [], ◌∷◌, ◌++◌, length, take, drop, nat_eq, Some, None, Option, sym, refl, ap, ◌∙◌, append_assoc, arith, length-append}
 use Rattle.std.proofs.lemmas.List.{drop_at, drop-drop}
 use Rattle.std.specs.Cmp.Lexicographic.{pointwise}
+use Rattle.std.proofs.lemmas.Option.{none-some}
 use Rattle.std.proofs.lemmas.Bool.{both_ways, and_parts, eqb-true}
 use Rattle.orders.specs.declared.pair.Both.{Both}
 use Rattle.orders.specs.Texts.{Texts, Stands, Back}
@@ -14,18 +15,15 @@ record Parts (o p : Option (List ℕ)) (t : List ℕ) : Type 0 where
   second : p ≡ Some right
   whole : t ≡ left ++ 47 ∷ right
 
-no_text : (s : List ℕ) → ◌≡◌ {A = Option (List ℕ)} None (Some s) → ◌≡◌ {A = ℕ} 0 1
-no_text s e = cc
-
 -- the two halves of what is read
 both-same : {K : Type 0} (k l : K) (m n : ℕ) → ◌≡◌ {A = Option (K × ℕ)} (Some (k, m)) (Some (l, n)) → (k ≡ l) × (m ≡ n)
 both-same {K} k l m n e = let p : ◌≡◌ {A = K × ℕ} (k, m) (l, n) = cc in (ap (λ q. q.0) p, ap (λ q. q.1) p)
 
 parts : (o p : Option (List ℕ)) (t : List ℕ) → joined o p ≡ Some t → Parts o p t
 parts (Some l) (Some r) t e = record { left = l; right = r; first = refl; second = refl; whole = cc }
-parts (Some l) None t e = absurd (omega (arith, no_text t e))
-parts None (Some r) t e = absurd (omega (arith, no_text t e))
-parts None None t e = absurd (omega (arith, no_text t e))
+parts (Some l) None t e = absurd (none-some t e)
+parts None (Some r) t e = absurd (none-some t e)
+parts None None t e = absurd (none-some t e)
 
 -- what is read lies within the bytes
 pub stands-within : {K : Type 0} (m : Texts K) (bytes : List ℕ) (k : K) (n : ℕ) → Stands m bytes k n → n ≤ length bytes

@@ -2,6 +2,7 @@
 use Rattle.std.specs.Prelude.{◌≡◌, ℕ, true, List, ◌∷◌, ◌++◌, Some, None, Option, refl}
 use Rattle.std.proofs.Common.{subst, arith, length-append}
 use Rattle.std.proofs.ByRecursion.{All-append}
+use Rattle.std.proofs.lemmas.Option.{none-some}
 use Rattle.orders.specs.declared.pair.Both.{Both}
 use Rattle.orders.specs.Meaning.{Meaning, IsCommon}
 use Rattle.orders.specs.Texts.{Texts, IsText, text_byte}
@@ -41,18 +42,15 @@ joined (Some t) None = None
 joined None (Some u) = None
 joined None None = None
 
-no_text : (s : List ℕ) → ◌≡◌ {A = Option (List ℕ)} None (Some s) → ◌≡◌ {A = ℕ} 0 1
-no_text s e = cc
-
 joined_text : (t u : List ℕ) → IsText t → IsText u → IsText (t ++ 47 ∷ u)
 joined_text t u h g = (omega (arith, length-append t (47 ∷ u)), All-append (λ b. text_byte b ≡ true) t (47 ∷ u) h.1 (refl, g.1))
 
 pub joined_lawful : (o p : Option (List ℕ)) → ((t : List ℕ) → o ≡ Some t → IsText t) → ((u : List ℕ) → p ≡ Some u → IsText u) → (s : List ℕ) → joined o p ≡ Some s → IsText s
 joined_lawful (Some t) (Some u) h g s e =
     let is : t ++ 47 ∷ u ≡ s = cc in subst IsText is (joined_text t u (h t refl) (g u refl))
-joined_lawful (Some t) None h g s e = absurd (omega (arith, no_text s e))
-joined_lawful None (Some u) h g s e = absurd (omega (arith, no_text s e))
-joined_lawful None None h g s e = absurd (omega (arith, no_text s e))
+joined_lawful (Some t) None h g s e = absurd (none-some s e)
+joined_lawful None (Some u) h g s e = absurd (none-some s e)
+joined_lawful None None h g s e = absurd (none-some s e)
 
 abbrev pub pair_texts : {K L : Type 0} → Texts K → Texts L → Texts (Both K L)
 pair_texts m n =

@@ -1,7 +1,7 @@
 -- Parts of a line one after the other, and the longest words.
 use Rattle.std.proofs.Common.{◌≡◌, ℕ, zero, suc, ◌+◌, ◌-◌, ◌<◌, ◌≤◌, Bool, true, false, not, List, [], ◌∷◌, ◌++◌, length, get_or, take, drop, Some, None, inl, inr, sym, refl, ap, ◌∙◌, subst, append_assoc, append-nil, arith, length-append}
 use Rattle.std.proofs.lemmas.List.{take-append-drop, take-take, drop-take, drop_at, length-take-le, length-drop, take_all, get_or-take, get_or-drop, take_more}
-use Rattle.std.proofs.lemmas.Bool.{and_from, both_ways, cases_lt, cond-true, cond-false, lt-ltb, le-ltb}
+use Rattle.std.proofs.lemmas.Bool.{and_from, not-true, not-false, cases_lt, cond-true, cond-false, lt-ltb, le-ltb}
 use Rattle.std.specs.List.{position_or_len}
 use Rattle.std.specs.Option.{unwrap_or}
 use Rattle.std.proofs.lemmas.List.Sums.{fails_before_first, passes_at_first, prefix_len-le-length}
@@ -78,7 +78,7 @@ longest_word line class i l n e =
     let size : length w ≡ n = length-take-le n xs few in
     let at : (k : ℕ) → k < length w → in_class class (get_or w k 0) ≡ true =
     λ k m.
-    ap (in_class class) (get_or-take n xs k 0 (omega arith)) ∙ not_from_false _ (fails_before_first q xs k 0 (omega arith)) in
+    ap (in_class class) (get_or-take n xs k 0 (omega arith)) ∙ not-false _ (fails_before_first q xs k 0 (omega arith)) in
     record {
       spans = subst (λ m. Spans line i m w) (sym s.end) s;
       all = all_by_each (in_class class) w at;
@@ -86,16 +86,8 @@ longest_word line class i l n e =
           λ m.
           let here : n < length xs = omega arith in
           ap (in_class class) (sym (get_or-drop i line (length w) 0) ∙ ap (λ k. get_or xs k 0) (size ∙ e))
-          ∙ not_true _ (passes_at_first q xs 0 (omega (arith, e)));
+          ∙ not-true _ (passes_at_first q xs 0 (omega (arith, e)));
     }
-  where
-    not_from_false : (b : Bool) → not b ≡ false → b ≡ true
-    not_from_false true h = refl
-    not_from_false false h = absurd (both_ways true h refl)
-
-    not_true : (b : Bool) → not b ≡ true → b ≡ false
-    not_true true h = absurd (both_ways false refl h)
-    not_true false h = refl
 
 -- the bytes from a place on, as the code cuts them
 pub rest_is : (line : List ℕ) (i : ℕ) → take (length line - i) (drop i line) ≡ drop i line

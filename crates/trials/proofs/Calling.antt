@@ -1,5 +1,5 @@
 -- A call on the case in the memory: what it answers, and that what it leaves is in the memory then.
-use Rattle.std.proofs.Common.{◌≡◌, ℕ, false, List, length, vec_items, Vec, Ok, Option, Result, sym, ap, subst, ◌∙◌}
+use Rattle.std.proofs.Common.{◌≡◌, ℕ, false, List, length, vec_items, Vec, Ok, Err, Option, Result, sym, ap, subst, ◌∙◌}
 use Rattle.std.proofs.lemmas.Bool.{cond-false}
 use Rattle.std.proofs.lemmas.List.{with_items_is}
 use Rattle.std.specs.Vec.{with_items}
@@ -15,7 +15,7 @@ use Rattle.cases.specs.declared.case.Case.{Case}
 use Rattle.cases.specs.Calls.{lent, heap_of, as_opened, enter_of, match_of, Kept}
 use Rattle.cases.specs.Law.{LawIn}
 use Rattle.trials.specs.declared.memory.Memory.{Memory}
-use Rattle.trials.specs.Trials.{lent_for}
+use Rattle.trials.specs.Trials.{lent_for, tried}
 use Rattle.trials.specs.Memory.{heap_in, entering, matching, Stands, Holds}
 use Rattle.trials.proofs.Standing.{opens_as, reached_by}
 
@@ -51,6 +51,7 @@ module _ {K : Type 0} (m : Meaning K) (b : Memory K) (stands : Stands m b) (l : 
   same = same_heap b.case cells (vec_items b.cells) slots (vec_items b.slots) cells_are slots_are
 
   long : too_short_for b.case.cells b.case.features l ≡ false
+  unfolding Stands
   long = ap (λ l. too_short_for b.case.cells b.case.features l) is ∙ stands.enough
 
   entering_is : (ss : List (Statement K)) → enter_of m l b.case ss places cells slots ≡ entering m b ss
@@ -65,6 +66,7 @@ module _ {K : Type 0} (m : Meaning K) (b : Memory K) (stands : Stands m b) (l : 
   entering_answer ss r e = e ∙ ap (λ (x : Left K). x.answer) (entering_is ss)
 
   matching_is : (ss : List (Statement K)) (i : ℕ) → match_of m l b.case ss i places cells slots ≡ matching m b ss i
+  unfolding tried
   matching_is ss i =
       cond-false _ _ _ long
       ∙ ap (λ l. matches m l ss i places h) is
@@ -79,6 +81,7 @@ module _ {K : Type 0} (m : Meaning K) (b : Memory K) (stands : Stands m b) (l : 
       (new_cells_are : vec_items after.cells ≡ new_cells) (new_slots_are : vec_items after.slots ≡ new_slots) (new_places_are : vec_items after.places ≡ new_places) where
     holds : (call : Call K) (x left : Left K) → x ≡ left → ((t : History K) → (after_call m call places l (case_at m h t)).heap ≡ x.heap)
         → Kept x b.case cells slots after.case new_cells new_slots new_places → LawIn m b.case l call places h (heap_of after.case new_cells new_slots) → Holds m left after
+    unfolding Stands
     holds call x left e leaves kept law =
         let goes = law long stands.history (subst (λ g. Reached m (case_at m g stands.history)) (sym same) stands.reached) in
         let (history, reached) = reached_by m _ h _ stands.history goes in
@@ -108,6 +111,7 @@ pub opened_stands : {K : Type 0} (m : Meaning K) (after : Memory K) (l : Lent) (
     → vec_items after.cells ≡ cells → vec_items after.slots ≡ slots → Ok after.case ≡ as_opened (opens m.widest 256 after.features l)
     → Opens m 256 after.features (heap_of after.case cells slots)
     → (opens m.widest 256 after.features (lent_for after.features) ≡ Ok (heap_in after)) × Stands m after
+unfolding Stands
 opened_stands {K} m after l is cells slots cells_are slots_are answer law =
     let (opens_is, enough) = opens_as m after.features l after.case answer in
     let now = same_heap after.case (vec_items after.cells) cells (vec_items after.slots) slots cells_are slots_are in (
@@ -118,3 +122,12 @@ opened_stands {K} m after l is cells slots cells_are slots_are answer law =
         enough = ap (λ l. too_short_for after.case.cells after.case.features l) (sym is) ∙ enough;
       },
     )
+
+refused_as : {K : Type 0} (r : Result (Heap K) Refusal) (e : Refusal) → Err e ≡ as_opened r → r ≡ Err e
+refused_as (Ok h) e is = absurd cc
+refused_as (Err d) e is = cc
+
+-- or the opening was refused
+pub opening_refused : {K : Type 0} (m : Meaning K) (features : ℕ) (l : Lent) → l ≡ lent_for features → (e : Refusal) → Err e ≡ as_opened (opens m.widest 256 features l)
+    → opens m.widest 256 features (lent_for features) ≡ Err e
+opening_refused m features l is e answer = ap (λ l. opens m.widest 256 features l) (sym is) ∙ refused_as (opens m.widest 256 features l) e answer

@@ -20,10 +20,14 @@ module _ {K : Type 0} where
 
 module _ {K : Type 0} (m : Meaning K) where
   -- calls have left the case that is in the memory, and it lies there whole
-  pub record Stands (b : Memory K) : Type 0 where
+  pub record Standing (b : Memory K) : Type 0 where
     pub history : History K
     pub reached : Reached m (case_at m (heap_in b) history)
     pub enough : too_short_for b.case.cells b.case.features (lent_for b.features) ≡ false
+
+  -- the same as one word, which only the proofs that need its parts open
+  unfoldable pub Stands : Memory K → Type 0
+  Stands b = Standing b
 
   -- what entering an entry answers and leaves of the case in the memory
   abbrev pub entering : Memory K → List (Statement K) → Left K

@@ -44,11 +44,15 @@ module _ {K : Type 0} where
 
 module _ {K : Type 0} (m : Meaning K) (features : ℕ) where
   -- what a match of the rule at the root answers and leaves
-  abbrev pub tried : List (Statement K) → ℕ → List ℕ → Heap K → Left K
+  unfoldable pub tried : List (Statement K) → ℕ → List ℕ → Heap K → Left K
   tried rule root places h = matches m (lent_for features) rule root places h
 
+  -- the kind at a root's end
+  unfoldable pub asked : ℕ → Heap K → Result K Refusal
+  asked root h = kind_asked m (lent_for features) root h
+
   abbrev pub outcome_of : ℕ → Left K → Outcome K
-  outcome_of root left = told left.answer (kind_asked m (lent_for features) root left.heap)
+  outcome_of root left = told left.answer (asked root left.heap)
 
   -- the rules in order at a root, each on what those before it have left
   unfoldable pub outcomes_at : ℕ → List ℕ → Heap K → List (List (Statement K)) → List (Outcome K)

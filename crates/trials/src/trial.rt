@@ -1,7 +1,7 @@
 // What comes of a rule that is tried on an entry.
 use refusals::Refusal;
 
-#[derive(Clone, Copy, PartialEq, Eq, Debug)]
+#[derive(Clone, Copy)]
 pub enum Outcome<K> {
     // The rule matches: the kind at the root's end.
     Yes { kind: K },
@@ -12,7 +12,7 @@ pub enum Outcome<K> {
 }
 
 // Entries and rules have their numbers from 1.
-#[derive(Clone, Copy, PartialEq, Eq, Debug)]
+#[derive(Clone, Copy)]
 pub struct Trial<K> {
     pub entry: usize,
     pub rule: usize,

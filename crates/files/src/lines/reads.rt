@@ -161,6 +161,7 @@ fn read_lists<K: Copy, O: OfList<Kind = K> + Drop>(
 }
 
 // What a file says, or why it is refused. The clause is that of `read_file`, which is thin for the same reason as `read_kinds`.
+#[tactic(auto, unfolding(crate::specs::Reads::FileRead))]
 fn read_whole<K: Copy, O: OfList<Kind = K> + Drop>(
     memory: Memory<K>,
     file: &[u8],

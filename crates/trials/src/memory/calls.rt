@@ -2,8 +2,8 @@
 ghost use Rattle.std.specs.Prelude.{◌≡◌, IfOk, slice_index};
 ghost use Rattle.compiler.specs.Entries.{statements_of as statements_of_entry};
 ghost use Rattle.compiler.specs.Rules.{statements_of as statements_of_rule};
-ghost use Rattle.osf.specs.Calls.{opens, kind_asked};
-ghost use Rattle.trials.specs.Trials.{lent_for, refused_with as as_told, outcome_of};
+ghost use Rattle.osf.specs.Calls.{opens};
+ghost use Rattle.trials.specs.Trials.{lent_for, asked, refused_with as as_refused, told, outcome_of};
 ghost use Rattle.trials.specs.Memory.{heap_in, places_in, entering, matching, Stands, Opened, Begun, Holds};
 
 use super::Memory;
@@ -24,7 +24,7 @@ const CELLS: usize = 256;
 
 // A clash is told by its statement.
 fn refused_with<K>(refusal: Refusal) -> Outcome<K>
-    ensures { result ≡ as_told refusal }
+    ensures { result ≡ as_refused refusal }
 {
     match refusal {
         Refusal::Clash { statement } => Outcome::No { statement },
@@ -134,9 +134,10 @@ impl<K: Copy> Memory<K> {
         )
     }
 
+    #[tactic(auto, unfolding(crate::specs::Memory::Stands, crate::specs::Trials::asked))]
     fn kind_at<O: Order<Kind = K>>(&self, order: &O, cell: usize) -> Result<K, Refusal>
         requires { Stands (O.meaning order.now) self.now }
-        ensures { result ≡ kind_asked (O.meaning order.now) (lent_for self.now.features) cell (heap_in self.now) }
+        ensures { result ≡ asked (O.meaning order.now) self.now.features cell (heap_in self.now) }
     {
         kind_at(
             order,
@@ -168,6 +169,25 @@ impl<K: Copy> Memory<K> {
         }
     }
 
+    // What came of a rule at the root, by the answer to its match.
+    fn told<O: Order<Kind = K>>(
+        &self,
+        order: &O,
+        root: usize,
+        answer: Result<usize, Refusal>,
+    ) -> Outcome<K>
+        requires { Stands (O.meaning order.now) self.now }
+        ensures { result ≡ told answer (asked (O.meaning order.now) self.now.features root (heap_in self.now)) }
+    {
+        match answer {
+            Ok(_) => match self.kind_at(order, root) {
+                Ok(kind) => Outcome::Yes { kind },
+                Err(refusal) => Outcome::Refused { refusal },
+            },
+            Err(refusal) => refused_with(refusal),
+        }
+    }
+
     // What comes of a rule at the root.
     fn try_rule<O: Order<Kind = K>>(&mut self, order: &O, rule: &Rule<K>, root: usize) -> Outcome<K>
         requires { Stands (O.meaning order.now) self.old }
@@ -175,12 +195,7 @@ impl<K: Copy> Memory<K> {
         ensures left { Holds (O.meaning order.now) (matching (O.meaning order.now) self.old (statements_of_rule rule.now) root) self.new }
         ensures features { self.new.features ≡ self.old.features }
     {
-        match self.match_rule(order, rule, root) {
-            Ok(_) => match self.kind_at(order, root) {
-                Ok(kind) => Outcome::Yes { kind },
-                Err(refusal) => Outcome::Refused { refusal },
-            },
-            Err(refusal) => refused_with(refusal),
-        }
+        let answer = self.match_rule(order, rule, root);
+        self.told(order, root, answer)
     }
 }

@@ -1,6 +1,7 @@
 // What instructions find and write: the registers of a machine, and how far it has come.
-ghost use Rattle.std.specs.Prelude.{◌≡◌, ℕ, false, ◌+◌, ◌*◌, ◌<◌, ◌≤◌, ◌^◌, suc, length, take, get_or, slice_index};
-ghost use Rattle.joining.specs.Heap.{slot_in, push as pushed};
+ghost use Rattle.std.specs.Prelude.{◌≡◌, ℕ, false, ◌+◌, ◌*◌, ◌<◌, ◌≤◌, ◌^◌, suc, cond, length, take, get_or, nat_le, slice_index};
+ghost use Rattle.joining.specs.Heap.{slot_in, refers_in, follow, put_kind, put_slot, push as pushed};
+ghost use Rattle.instructions.specs.declared.instruction.Mode.TheVariants.{Read};
 ghost use Rattle.instructions.specs.Steps.{set_place, write as written};
 ghost use Rattle.cases.specs.Memory.{heap_in};
 ghost use Rattle.cases.specs.Machines.{state_in, Narrows, Ties, Tests, Sets};
@@ -16,7 +17,7 @@ use joining::cell::Cell;
 use orders::order::Order;
 
 // How far a machine has come: how many cells are in use, how many registers are set, and where the present instruction stands.
-#[derive(Clone, Copy, PartialEq, Eq, Debug)]
+#[derive(Clone, Copy)]
 pub struct Progress {
     pub used: usize,
     pub set: usize,
@@ -88,6 +89,23 @@ fn narrow<O: Order>(order: &O, cells: &mut [Cell<O::Kind>], at: usize, kind_want
     }
 }
 
+// The same at the end of a register's cell.
+fn narrow_end<O: Order>(
+    order: &O,
+    cells: &mut [Cell<O::Kind>],
+    registers: &[usize],
+    set: usize,
+    register: usize,
+    kind_wanted: O::Kind,
+) -> bool
+    requires { set ≤ length registers.now }
+    ensures answer { Narrows (O.meaning order.now) (follow (refers_in (O.meaning order.now).widest cells.old) (length cells.old) (slice_index (take set registers.now) register)) kind_wanted cells.old cells.new result }
+    ensures kept { result ≡ false → cells.new ≡ cells.old }
+{
+    let at = end(cells, cell_in(registers, set, register));
+    narrow(order, cells, at, kind_wanted)
+}
+
 // Has the feature of an end lead to a cell: what is in the slot is joined with the cell, or the slot is filled. Whether no kinds clash.
 fn tie<O: Order>(
     order: &O,
@@ -143,6 +161,22 @@ fn test(
     }
 }
 
+// Where a description ends: reading goes on at the label if writing began at its depth or deeper.
+fn leave(progress: Progress, began: usize, depth: usize, label: usize) -> Progress
+    requires { progress.at + 1 < 2 ^ 64 }
+    ensures { result ≡ cond (nat_le depth began) (record { used = progress.used; set = progress.set; mode = Read; at = label }) (record { used = progress.used; set = progress.set; mode = progress.mode; at = progress.at + 1 }) }
+{
+    if depth <= began {
+        Progress {
+            mode: Mode::Read,
+            at: label,
+            ..progress
+        }
+    } else {
+        on(progress)
+    }
+}
+
 // The kind with this number; the widest past the last.
 fn numbered<O: Order>(order: &O, kinds: &[O::Kind], number: usize) -> O::Kind
     ensures { result ≡ get_or kinds.now number (O.meaning order.now).widest }
@@ -166,6 +200,44 @@ fn push<O: Order>(
 {
     renew(order, cells, used);
     empty(slots, features, used);
+}
+
+// Gives the cell in a register this kind.
+fn set_sort<K: Copy>(
+    cells: &mut [Cell<K>],
+    registers: &[usize],
+    set: usize,
+    register: usize,
+    kind: K,
+)
+    requires { set ≤ length registers.now }
+    ensures { (top : K) → cells.new ≡ put_kind top cells.old (slice_index (take set registers.now) register) kind }
+{
+    set_kind(cells, cell_in(registers, set, register), kind);
+}
+
+// Has the feature of the end of a register's cell lead to the cell in another register.
+fn set_feature<K>(
+    cells: &[Cell<K>],
+    slots: &mut [Option<usize>],
+    features: usize,
+    registers: &[usize],
+    set: usize,
+    register: usize,
+    feature: usize,
+    value: usize,
+)
+    requires { set ≤ length registers.now }
+    ensures { (top : K) → slots.new ≡ put_slot slots.old features (follow (refers_in top cells.now) (length cells.now) (slice_index (take set registers.now) register)) feature (slice_index (take set registers.now) value) }
+{
+    let from = end(cells, cell_in(registers, set, register));
+    fill(
+        slots,
+        features,
+        from,
+        feature,
+        cell_in(registers, set, value),
+    );
 }
 
 // What an instruction writes; those that do not write leave all as it is.
@@ -199,7 +271,7 @@ fn write<O: Order>(
         }
         Instruction::SetSort { register, kind } => {
             let kind = numbered(order, kinds, kind);
-            set_kind(cells, cell_in(registers, progress.set, register), kind);
+            set_sort(cells, registers, progress.set, register, kind);
             progress
         }
         Instruction::SetFeature {
@@ -207,13 +279,9 @@ fn write<O: Order>(
             feature,
             value,
         } => {
-            let at = end(cells, cell_in(registers, progress.set, register));
-            fill(
-                slots,
-                features,
-                at,
-                feature,
-                cell_in(registers, progress.set, value),
+            let set = progress.set;
+            set_feature(
+                cells, slots, features, registers, set, register, feature, value,
             );
             progress
         }

@@ -7,7 +7,7 @@ ghost use Rattle.cases.specs.Within.{Beyond};
 
 pub mod limits;
 
-use super::{Progress, cell_in, narrow, numbered, on, test, tie, write};
+use super::{Progress, cell_in, leave, narrow_end, numbered, on, test, tie, write};
 use crate::store::end;
 use instructions::instruction::{Instruction, Mode};
 use joining::cell::Cell;
@@ -36,8 +36,8 @@ fn advance<O: Order>(
 {
     match (progress.mode, instruction) {
         (Mode::Read, Instruction::IntersectSort { register, kind }) => {
-            let at = end(cells, cell_in(registers, progress.set, register));
-            if narrow(order, cells, at, numbered(order, kinds, kind)) {
+            let wanted = numbered(order, kinds, kind);
+            if narrow_end(order, cells, registers, progress.set, register, wanted) {
                 Some(on(progress))
             } else {
                 None
@@ -76,15 +76,7 @@ fn advance<O: Order>(
         }
         (Mode::Read, _) => Some(on(progress)),
         (Mode::Write { depth }, Instruction::WriteTest { depth: from, label }) => {
-            if from <= depth {
-                Some(Progress {
-                    mode: Mode::Read,
-                    at: label,
-                    ..progress
-                })
-            } else {
-                Some(on(progress))
-            }
+            Some(leave(progress, depth, from, label))
         }
         (Mode::Write { .. }, _) => {
             let written = write(

@@ -1,4 +1,4 @@
-use Rattle.std.proofs.Common.{Ok, Err, sym}
+use Rattle.std.proofs.Common.{Ok, Err}
 use Rattle.std.proofs.lemmas.Result.{err_from_is_err_and}
 use Rattle.features.specs.Model.{feature_names}
 use Rattle.files.specs.Reads.{said_terms}
@@ -32,7 +32,7 @@ returns-in_err-check_end g c =
     let hu = with_made texts c.of_list-order.result (g.O.OfList.made l) c.of_list-order.ensures fs file c.in_ok-entries.rules_at (Ok (us, c.in_ok-rules.end)) c.in_ok-rules.ensures.answer in
     rw (p.1, p.2)
     (end_refused (λ l. texts (g.O.OfList.made l)) file c.args.place l fs c.in_ok-features.entries_at c.in_ok-features.ensures.answer es c.in_ok-entries.rules_at he
-    us c.in_ok-rules.end hu c.in_err-check_end.field-0.0 (sym c.in_err-check_end.ensures))
+    us c.in_ok-rules.end hu c.in_err-check_end.field-0.0 c.in_err-check_end.ensures)
 
 pub returns : goal.returns
 returns g c =
@@ -46,5 +46,5 @@ returns g c =
     let hu = with_made texts c.of_list-order.result (g.O.OfList.made l) c.of_list-order.ensures fs file c.in_ok-entries.rules_at (Ok (us, c.in_ok-rules.end)) c.in_ok-rules.ensures.answer in (
       c.of_list-order.ensures,
       all_read (λ l. texts (g.O.OfList.made l)) file c.args.place l fs c.in_ok-features.entries_at c.in_ok-features.ensures.answer es c.in_ok-entries.rules_at he
-          us c.in_ok-rules.end hu (sym c.in_ok-check_end.ensures),
+          us c.in_ok-rules.end hu c.in_ok-check_end.ensures,
     )

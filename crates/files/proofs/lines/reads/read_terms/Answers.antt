@@ -1,9 +1,6 @@
-use Rattle.std.proofs.Common.{Ok, Err, sym, [], map, subst}
-use Rattle.features.specs.Model.{feature_names}
-use Rattle.terms.specs.Terms.{said_of}
-use Rattle.files.specs.Files.{Section, TakesTerm}
+use Rattle.std.proofs.Common.{Ok, Err}
 use Rattle.files.specs.declared.lines.shelf.Shelf.{Shelf}
-use Rattle.files.proofs.Sections.{terms_read, begins}
+use Rattle.files.proofs.Sections.{terms_read, begins, cut_off}
 use Rattle.files.proofs.lines.reads.read_terms.Goals as goal
 
 pub returns-in-Ok-clause-answer : goal.returns-in-Ok-clause-answer
@@ -12,8 +9,7 @@ returns-in-Ok-clause-answer g c =
     let x : Shelf g.row.K.Denot g.row.O.Denot = record { order = c.args.order; features = c.args.features; terms = c.args.terms; filled = 0 } in
     let h = terms_read texts c.args.order c.args.features c.args.file.now c.args.place x (Ok (c.take_section.new.section, c.in-Ok.next))
     (begins texts c.args.order c.args.features c.args.terms c.requires.empty) c.in-Ok.ensures.answer in
-    subst (λ ts. Section (TakesTerm (texts c.args.order.now) (feature_names c.args.features.now)) 200 c.args.file.now c.args.place [] (Ok (map said_of ts, c.in-Ok.next)))
-    (sym c.truncate.ensures.items) h.0
+    cut_off texts c.args.order c.args.features c.args.file.now c.args.place c.in-Ok.next _ _ c.truncate.ensures.items h.0
 
 pub returns-in-Err-clause-answer : goal.returns-in-Err-clause-answer
 returns-in-Err-clause-answer g c =

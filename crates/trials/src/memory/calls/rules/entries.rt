@@ -1,5 +1,5 @@
 // Every rule tried on every entry.
-ghost use Rattle.std.specs.Prelude.{◌≡◌, ◌+◌, ◌*◌, ◌≤◌, ◌++◌, [], map, length, vec_len, vec_capacity, IfOk};
+ghost use Rattle.std.specs.Prelude.{◌≡◌, ◌+◌, ◌*◌, ◌≤◌, ◌++◌, ◌∷◌, [], map, length, vec_len, vec_capacity, IfOk, OnOk};
 ghost use Rattle.compiler.specs.Views.{statements_in};
 ghost use Rattle.compiler.specs.Entries.{statements_of as statements_of_entry, room_of as room_of_entry};
 ghost use Rattle.compiler.specs.Rules.{statements_of as statements_of_rule};
@@ -22,12 +22,20 @@ fn compiled<K: Copy>(term: &Term<K>, heap: Global) -> Result<Rule<K>, AllocError
     Ok(rule)
 }
 
+// Adds a rule behind the others.
+fn add_rule<K: Copy>(rule: Rule<K>, rules: &mut Vec<Rule<K>>) -> Result<(), AllocError>
+    ensures { OnOk result (map statements_of_rule rules.new.items ≡ map statements_of_rule rules.old.items ++ statements_of_rule rule ∷ []) }
+{
+    rules.push(rule)?;
+    Ok(())
+}
+
 fn compile_all<K: Copy>(terms: &[Term<K>], heap: Global) -> Result<Vec<Rule<K>>, AllocError>
     ensures { IfOk result (λ rules. map statements_of_rule rules.items ≡ map statements_in terms.now) }
 {
     let mut rules = Vec::with_capacity(heap, terms.len())?;
     for term in terms {
-        rules.push(compiled(term, heap)?)?;
+        add_rule(compiled(term, heap)?, &mut rules)?;
     }
     Ok(rules)
 }

@@ -1,10 +1,10 @@
-// Matching in a held case, by the calls of `instances`.
+// Matching in a held case, by the calls of `case_examples`.
 use super::Held;
-use crate::instances::list::match_kinds;
-use crate::instances::nested::match_nested;
-use crate::instances::pair::match_amounts;
 use bands::band::Band;
 use bands::order::Bands;
+use case_examples::instances::list::match_kinds;
+use case_examples::instances::nested::match_nested;
+use case_examples::instances::pair::match_amounts;
 use compiler::rule::Rule;
 use kinds::list::List;
 use orders::pair::{Both, Pair};
