@@ -1,7 +1,7 @@
 // The work of the programs that try a file's rules on its entries.
 //
-// `read_input`  a program's input, no more of it than shows that it is too long for a file
-// `answer`      the text that answers a file: what comes of every rule on every entry, or why the file is refused
+// `answer`        the text that answers a file: what comes of every rule on every entry, or why the file is refused
+// `answer_input`  the same for a program's input, which is read whole
 #![tactic(auto)]
 
 ghost use Rattle.std.specs.Prelude.{◌≡◌, ◌∷◌, [], ◌++◌, IfOk, IfSome, map, length, take, vec_items, codes};
@@ -25,12 +25,15 @@ use trials::try_all;
 // How many bytes a line of the text has at most: two numbers of three digits, `yes`, the blanks, a kind as long as one is shown, and the feed.
 const LONGEST_LINE: usize = 3 + 1 + 3 + 1 + 3 + 1 + LONGEST_KIND + 1;
 
-// Reads an input. Of one that is longer than a file may be, one byte more than a file may have is read: it will be refused for its length.
-pub fn read_input<R: Read + Drop>(input: R, heap: Global) -> io::Result<Vec<u8>>
+// Reads an input whole. Of one that is longer than a file may be, one byte more than a file may have is kept: it will be refused for its
+// length, and the rest is read and dropped.
+fn read_input<R: Read + Drop>(input: R, heap: Global) -> io::Result<Vec<u8>>
     ensures { IfOk result (λ file. IfSome (R.remaining input) (λ bytes. file.items ≡ take 60001 bytes)) }
 {
     let mut file = Vec::with_capacity(heap, LONGEST_FILE + 1)?;
-    input.take(LONGEST_FILE as u64 + 1).read_to_end(&mut file)?;
+    let mut first = input.take(LONGEST_FILE as u64 + 1);
+    first.read_to_end(&mut file)?;
+    io::copy(&mut first.into_inner(), &mut io::sink())?;
     Ok(file)
 }
 
@@ -78,4 +81,16 @@ pub fn answer<K: Copy, O: OfList<Kind = K> + Drop>(
         }
         Err(refusal) => refused_text(refusal, heap),
     }
+}
+
+// The text that answers an input, which is read whole, as a file.
+pub fn answer_input<K: Copy, O: OfList<Kind = K> + Drop, R: Read + Drop>(
+    input: R,
+    heap: Global,
+) -> io::Result<Vec<u8>>
+    ensures { IfOk result (λ text. IfSome (R.remaining input) (λ bytes. Answers (λ l. O.meaning (O.made l)) (λ l. O.texts (O.made l)) bytes text.items)) }
+{
+    let file = read_input(input, heap)?;
+    let text = answer::<K, O>(file.as_slice(), heap)?;
+    Ok(text)
 }

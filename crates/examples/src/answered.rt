@@ -1,5 +1,5 @@
 // Files, and the text that answers them.
-use answering::answer;
+use answering::{answer, answer_input};
 use bands::order::Bands;
 use kinds::list::List;
 use orders::pair::Pair;
@@ -39,6 +39,22 @@ fn refused_files(rt: HostRuntime) -> Result<(), Fail> {
     ];
     for (file, answered) in files {
         let text = answer::<_, List>(file, rt.alloc())?;
+        assert!(rt; text.as_slice() == answered);
+    }
+    Ok(())
+}
+
+// An input is read whole. Of one that is longer than a file may be, only that is told.
+#[test]
+fn inputs_up_to_their_length_and_past_it(rt: HostRuntime) -> Result<(), Fail> {
+    let inputs: [(usize, &[u8]); 3] = [
+        (60_000, b"file refused 2 0\n"),
+        (60_001, b"file refused 1 0\n"),
+        (70_000, b"file refused 1 0\n"),
+    ];
+    for (length, answered) in inputs {
+        let input = vec![in rt.alloc(); b'\n'; length]?;
+        let text = answer_input::<_, List, _>(input.as_slice(), rt.alloc())?;
         assert!(rt; text.as_slice() == answered);
     }
     Ok(())

@@ -1,7 +1,7 @@
 // Reads a file, tries its rules on its entries with kinds and amounts, and writes what comes of each.
 #![tactic(auto)]
 
-use answering::{answer, read_input};
+use answering::answer_input;
 use bands::order::Bands;
 use kinds::list::List;
 use orders::pair::Pair;
@@ -9,8 +9,7 @@ use std::io::Write;
 
 // A refused file is an answer too. Only an input that cannot be read, or memory that cannot be had, is an error.
 fn main(rt: HostRuntime) -> anyhow::Result<()> {
-    let file = read_input(rt.stdin(), rt.alloc())?;
-    let text = answer::<_, Pair<List, Bands>>(file.as_slice(), rt.alloc())?;
+    let text = answer_input::<_, Pair<List, Bands>, _>(rt.stdin(), rt.alloc())?;
     rt.stdout().write_all(text.as_slice())?;
     Ok(())
 }
