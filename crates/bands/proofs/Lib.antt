@@ -2,4 +2,4 @@ pub mod Common
 pub mod Numbers
 pub mod Points
 pub mod Stopped
-pub mod Lengths
+mod Placing

@@ -1,20 +1,33 @@
 // Reading a band: an amount, and the band whose text stands first.
 ghost use Rattle.orders.specs.Texts.{Back, Taken};
 ghost use Rattle.bands.specs.Letters.{texts};
-ghost use Rattle.bands.specs.Texts.{ReadsText, ReadsNumber};
+ghost use Rattle.std.specs.Prelude.{◌≡◌};
+ghost use Rattle.bands.specs.Texts.{ReadsText, ReadsNumber, plain};
 
 use crate::band::Band;
-use itoa::Buffer;
 use orders::texts::stop;
 use std::str;
 
-// The amount whose text this is.
+// Whether a text stands as numbers are written: with no sign but a minus, and with no zero in front but that of 0 itself.
+#[tactic(auto, unfolding(crate::specs::Texts::plain))]
+fn is_plain(text: &[u8]) -> bool
+    ensures { result ≡ plain text.now }
+{
+    let first = text.first().copied().unwrap_or(0);
+    let second = text.get(1).copied().unwrap_or(0);
+    let leading = if first == b'-' { second } else { first };
+    (text.len() == 1 && first == b'0') || matches!(leading, b'1'..=b'9')
+}
+
+// The amount whose text this is. The text is tested before it is parsed: writing the amount again, to compare, takes longer.
 #[tactic(auto, using(crate::proofs::Numbers::amount_cases))]
 fn amount(text: &str) -> Option<i64>
     ensures { ReadsNumber text.now result }
 {
-    let amount: i64 = text.parse().ok()?;
-    (Buffer::new().format(amount) == text).then_some(amount)
+    if !is_plain(text.as_bytes()) {
+        return None;
+    }
+    text.parse().ok()
 }
 
 // The band whose text this is.

@@ -37,7 +37,7 @@ fn feature(variable: usize, feature: usize, value: usize) -> Statement<Band> {
 fn a_new_term_is_that_of_a_bare_name(rt: HostRuntime) -> Result<(), Fail> {
     let term: Term<Band> = Term::new(rt.alloc(), 3)?;
     assert!(rt;
-        [term.statements(), term.variables()] == [0, 1]
+        [term.room(), term.statements(), term.variables()] == [3, 0, 1]
             && term.statement(1) == None
             && [term.depth(0), term.depth(1)] == [Some(0), None]
     );

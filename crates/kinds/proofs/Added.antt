@@ -1,7 +1,7 @@
 -- One kind more in memory.
-use Rattle.std.proofs.Common.{◌≡◌, ℕ, ◌^◌, ◌<◌, true, cond, eqb, List, [], ◌∷◌, ◌++◌, map, length, sym, refl, ap, ◌∙◌, subst, ap₂}
+use Rattle.std.proofs.Common.{◌≡◌, ℕ, ◌+◌, ◌^◌, ◌<◌, true, cond, eqb, List, [], ◌∷◌, ◌++◌, map, length, get_or, set, take, drop, sym, refl, ap, ◌∙◌, subst, ap₂, arith}
 use lib.Bits.{bit_and, bit_or}
-use Rattle.std.proofs.lemmas.List.{length-map, map_push}
+use Rattle.std.proofs.lemmas.List.{length-map, map_push, map_more, take_more_set, drop-set-lt, drop-drop, get_or-drop}
 use Rattle.declarations.specs.Declarations.{sound, follows}
 use Rattle.declarations.specs.Rows.{grown, add_row, rows_of}
 use Rattle.declarations.proofs.Sound.{sound_push}
@@ -9,6 +9,17 @@ use Rattle.declarations.proofs.Grown.{rows_push}
 use Rattle.kinds.specs.declared.table.Kind.{Kind}
 use Rattle.kinds.specs.Stored.{declaration, with_new}
 use Rattle.kinds.proofs.Members.{mask_members}
+
+-- one item more is changed in place: those before are, and those behind are as they were
+pub changed_onward : {X : Type 0} (f : X → X) (now old : List X) (i : ℕ) (d : X) → i < length now → length now ≡ length old → take i now ≡ map f (take i old) → drop i now ≡ drop i old →
+    (take (i + 1) (set now i (f (get_or now i d))) ≡ map f (take (i + 1) old)) × (drop (i + 1) (set now i (f (get_or now i d))) ≡ drop (i + 1) old)
+changed_onward f now old i d l size t r =
+    let e : i + 0 ≡ i = omega arith in
+    let at : get_or now i d ≡ get_or old i d =
+    ap (λ n. get_or now n d) (sym e) ∙ sym (get_or-drop i now 0 d) ∙ ap (λ xs. get_or xs 0 d) r ∙ get_or-drop i old 0 d ∙ ap (λ n. get_or old n d) e in (
+      take_more_set now i (f (get_or now i d)) l ∙ ap₂ (λ xs x. xs ++ f x ∷ []) t at ∙ sym (map_more f old i d (omega arith)),
+      drop-set-lt (i + 1) now i (f (get_or now i d)) (omega arith) ∙ sym (drop-drop 1 i now) ∙ ap (drop 1) r ∙ drop-drop 1 i old,
+    )
 
 module _ (k : Kind) where
   -- a kind more leaves the declarations of the others

@@ -4,7 +4,7 @@ ghost use Rattle.declarations.specs.Declarations.{any};
 ghost use Rattle.kinds.specs.Lists.{drafted};
 ghost use Rattle.kinds.specs.Model.{kinds_of};
 
-use crate::table::{ANY, MOST, Table};
+use crate::table::{ANY, MOST, Table, UNUSED};
 use short_lists::ShortList;
 
 pub mod closes;
@@ -20,11 +20,11 @@ pub struct Draft {
 fn any_alone() -> Table
     ensures { kinds_of result ≡ any ∷ [] }
 {
+    // Zeros past it, which are set at once, and not copies of `any`.
+    let mut room = [UNUSED; MOST];
+    room[0] = ANY;
     Table {
-        kinds: ShortList {
-            room: [ANY; MOST],
-            len: 1,
-        },
+        kinds: ShortList { room, len: 1 },
     }
 }
 

@@ -2,7 +2,7 @@
 //
 // `Draft`    kinds being declared, line by line; begins with `any`
 // `List`     a closed draft: an order of kinds, and a written one
-// `SHIPPED`  the kinds of the list that comes with the matcher
+// `SHIPPED`  the list that comes with the matcher
 #![tactic(auto)]
 
 pub mod draft;

@@ -5,6 +5,7 @@ ghost use Rattle.declarations.specs.Rows.{rows_of};
 ghost use Rattle.kinds.specs.Stored.{declaration};
 
 use declarations::name::Name;
+use declarations::name::methods::BLANK;
 use short_lists::ShortList;
 
 pub mod lookups;
@@ -44,4 +45,11 @@ pub const ANY: Kind = Kind {
     name: ANY_NAME,
     wider: 0,
     row: 1,
+};
+
+// What lies in the room past the last kind, where nothing else lay there before.
+pub const UNUSED: Kind = Kind {
+    name: BLANK,
+    wider: 0,
+    row: 0,
 };

@@ -86,8 +86,9 @@ fn main(rt: HostRuntime) -> anyhow::Result<()> {
         features: &features,
     };
     let mut term = Term::new(rt.alloc(), MOST_STATEMENTS)?;
-    // For each case, whether it agrees.
-    let mut cases = Vec::new(rt.alloc());
+    // How many cases there are, and how many of them agree: numbers, so that the input may be of any length.
+    let mut cases = 0u64;
+    let mut agree = 0u64;
     let lines = BufReader::new(rt.alloc(), rt.stdin())?.lines(rt.alloc());
     for (number, text) in (1u64..).zip(lines) {
         let text = text?;
@@ -98,13 +99,14 @@ fn main(rt: HostRuntime) -> anyhow::Result<()> {
                     line,
                     expected,
                 };
-                cases.push(check_case(&rt, &listing, &mut term, case)?)?;
+                cases = cases.wrapping_add(1);
+                if check_case(&rt, &listing, &mut term, case)? {
+                    agree = agree.wrapping_add(1);
+                }
             }
             None => term = Term::new(rt.alloc(), room_of(text.as_str())?)?,
         }
     }
-    let agree = cases.iter().filter(|agrees| **agrees).count();
-    let cases = cases.len();
     println!(rt; "{agree} of {cases} agree")?;
     Ok(())
 }

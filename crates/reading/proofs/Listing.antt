@@ -32,23 +32,23 @@ variable_marked (described None k items) b p t = refl
 
 module _ (features : List (List ℕ)) (line : List ℕ) (x : ℕ) (words : List (List ℕ)) (i d : ℕ) (n m1 m2 : Notes)
     (token : Token) (looked : Looked) (f : FeatureRead line (i + 1) (suc d) (Ok token)) (up : LooksUp features words token.text.now looked)
-    (marked : noted m1 ≡ mark looked.wrong (i + 1) (noted n)) (e : ℕ)
+    (marked : noted line m1 ≡ mark looked.wrong (i + 1) (noted line n)) (e : ℕ)
     (g : TermRead features line (Some (record { variable = x; feature = looked.feature; place = i + 1 })) (i + 1 + length token.text.now + 2) (suc d) m1 m2 (Ok e)) where
   -- what the item adds
-  item-told : (rest : Items) → tell_items features rest x (token.text.now ∷ words) e (noted m2) ≡ tell_items features (item token.text.now g.0 rest) x words i (noted n)
+  item-told : (rest : Items) → tell_items features rest x (token.text.now ∷ words) e (noted line m2) ≡ tell_items features (item token.text.now g.0 rest) x words i (noted line n)
   unfolding tell
   item-told rest =
       let (u, lawful, spans, ended, told, room) = g in
       let v = token.text.now in
-      let t = noted n in
+      let t = noted line n in
       let q = i + 1 + length v + 2 in
       let wrong = not (listed v features) || listed v words in
-      let is : noted m1 ≡ mark wrong (i + 1) t = marked ∙ ap (λ b. mark b (i + 1) t) up.1 in
-      let value : noted m2 ≡ tell features u q (say (Feature x (index v features) (variable u t)) (i + 1) (mark wrong (i + 1) t)) =
+      let is : noted line m1 ≡ mark wrong (i + 1) t = marked ∙ ap (λ b. mark b (i + 1) t) up.1 in
+      let value : noted line m2 ≡ tell features u q (say (Feature x (index v features) (variable u t)) (i + 1) (mark wrong (i + 1) t)) =
       told ∙ ap (λ s. tell features u q (say (Feature x looked.feature (variable u s)) (i + 1) s)) is
       ∙ ap (λ y. tell features u q (say (Feature x looked.feature y) (i + 1) (mark wrong (i + 1) t))) (variable_marked u wrong (i + 1) t)
       ∙ ap (λ k. tell features u q (say (Feature x k (variable u t)) (i + 1) (mark wrong (i + 1) t))) up.0 in
-      ap (λ p. tell_items features rest x (v ∷ words) p (noted m2)) (sym spans.end) ∙ ap (tell_items features rest x (v ∷ words) (q + length (written u))) value
+      ap (λ p. tell_items features rest x (v ∷ words) p (noted line m2)) (sym spans.end) ∙ ap (tell_items features rest x (v ∷ words) (q + length (written u))) value
 
   -- its bytes, with those that follow
   item-bytes : (j : ℕ) (tail : List ℕ) → Spans line e j tail → Spans line (i + 1) j (token.text.now ++ 61 ∷ 62 ∷ (written g.0 ++ tail))

@@ -10,22 +10,22 @@ use Rattle.grammar.proofs.Breaking.{lawful-within}
 use Rattle.grammar.proofs.Unlimited.{lawful_unlimited}
 use Rattle.reading.specs.declared.notes.Notes.{Notes}
 use Rattle.reading.specs.Links.{linked}
-use Rattle.reading.specs.Notes.{noted, said_of, variables, statements}
+use Rattle.reading.specs.Notes.{noted, part, said_in, variables, statements}
 use Rattle.reading.specs.Reading.{Fails, TermRead, RootRead, NotesOf}
 use Rattle.reading.proofs.Failing.{fails_here}
 
 -- where nothing is noted nothing is held
-pub noted_nothing : (n : Notes) → noted n ≡ nothing → (variables n ≡ 0) × (statements n ≡ 0)
-noted_nothing n e = (
-  sym (length-map n.names.items (λ w. w.now)) ∙ ap (λ t. length t.names) e,
-  sym (length-map n.said.items said_of) ∙ ap (λ t. length t.said) e,
+pub noted_nothing : (line : List ℕ) (n : Notes) → noted line n ≡ nothing → (variables n ≡ 0) × (statements n ≡ 0)
+noted_nothing line n e = (
+  sym (length-map n.names.items (part line)) ∙ ap (λ t. length t.names) e,
+  sym (length-map n.said.items (said_in line)) ∙ ap (λ t. length t.said) e,
 )
 
 module _ (features : List (List ℕ)) (line : List ℕ) (n m : Notes) (e : ℕ) (g : TermRead features line None 0 0 n m (Ok e)) where
   pub behind : e < length line → Fails line (Grammar e)
   behind l = let (t, lawful, spans, ended, said, room) = g in fails_here line e _ l ended.state_is (ended.closes no_limits l)
 
-  pub whole_line : length line ≤ e → RootRead features line (noted n) (noted m) (Ok tt)
+  pub whole_line : length line ≤ e → RootRead features line (noted line n) (noted line m) (Ok tt)
   whole_line l =
       let (t, lawful, spans, ended, said, room) = g in
       (t, lawful, sym spans.bytes ∙ take_all e line l, said)
@@ -42,7 +42,7 @@ module _ (features : List (List ℕ)) (line : List ℕ) (short : length line ≤
         | inr h ↦ inr (inl (within h.0, h.1, h.2, h.3))
       ]
 
-  module _ (n m : Notes) (fresh : noted n ≡ nothing) (r : RootRead features line (noted n) (noted m) (Ok tt)) where
+  module _ (n m : Notes) (fresh : noted line n ≡ nothing) (r : RootRead features line (noted line n) (noted line m) (Ok tt)) where
     abbrev line_of : Line line
     line_of =
         record {
@@ -52,7 +52,7 @@ module _ (features : List (List ℕ)) (line : List ℕ) (short : length line ≤
           within = within (lawful-within line r.0 r.1 r.2);
         }
 
-    says : noted m ≡ told features r.0
+    says : noted line m ≡ told features r.0
     says = r.3 ∙ ap (λ s. tell features r.0 0 (linked None (variable r.0 s) s)) fresh
 
     pub root-wrong : (p : ℕ) → m.wrong ≡ Some p → NotesOf features line (Err (Word p))

@@ -1,5 +1,5 @@
 -- Parts of a line one after the other, and the longest words.
-use Rattle.std.proofs.Common.{◌≡◌, ℕ, zero, suc, ◌+◌, ◌-◌, ◌<◌, ◌≤◌, Bool, true, false, not, List, [], ◌∷◌, ◌++◌, length, get_or, take, drop, Some, None, inl, inr, sym, refl, ap, ◌∙◌, subst, append_assoc, append-nil, arith, length-append}
+use Rattle.std.proofs.Common.{◌≡◌, ℕ, zero, suc, ◌+◌, ◌-◌, ◌<◌, ◌≤◌, Bool, true, not, List, [], ◌∷◌, ◌++◌, length, get_or, take, drop, Some, None, inl, inr, sym, refl, ap, ◌∙◌, subst, append_assoc, append-nil, arith, length-append}
 use Rattle.std.proofs.lemmas.List.{take-append-drop, take-take, drop-take, drop_at, length-take-le, length-drop, take_all, get_or-take, get_or-drop, take_more}
 use Rattle.std.proofs.lemmas.Bool.{and_from, not-true, not-false, cases_lt, cond-true, cond-false, lt-ltb, le-ltb}
 use Rattle.std.specs.List.{position_or_len}
@@ -7,6 +7,7 @@ use Rattle.std.specs.Option.{unwrap_or}
 use Rattle.std.proofs.lemmas.List.Sums.{fails_before_first, passes_at_first, prefix_len-le-length}
 use Rattle.grammar.specs.Words.{all_by}
 use Rattle.reading.specs.declared.reader.Class.{Class}
+use Rattle.reading.specs.Notes.{part}
 use Rattle.reading.specs.Reading.{in_class, first_outside, leading, Spans, Longest}
 
 pub all_by_each : (p : ℕ → Bool) (xs : List ℕ) → ((k : ℕ) → k < length xs → p (get_or xs k 0) ≡ true) → all_by p xs ≡ true
@@ -42,7 +43,7 @@ spans_byte line i b l e =
     record { end = omega arith; within = omega arith; bytes = take_more line i 0 l ∙ ap (λ x. take i line ++ x ∷ []) e }
 
 -- a part of the line by its place and length
-pub spans-part : (line : List ℕ) (i j : ℕ) (w : List ℕ) → Spans line i j w → take (length w) (drop i line) ≡ w
+pub spans-part : (line : List ℕ) (i j : ℕ) (w : List ℕ) → Spans line i j w → part line (record { place = i; len = length w }) ≡ w
 spans-part line i j w s =
     let size : length (take i line) ≡ i = length-take-le i line (omega (arith, s.end, s.within)) in
     sym (drop-take i (length w) line) ∙ ap (λ n. drop i (take n line)) s.end ∙ ap (drop i) s.bytes ∙ drop_at (take i line) w i size

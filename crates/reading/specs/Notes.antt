@@ -1,25 +1,28 @@
--- What notes in memory hold.
-use Rattle.std.specs.Prelude.{◌≡◌, ℕ, List, [], ◌∷◌, ◌++◌, map, length, Option, position}
-use Rattle.std.specs.Borrow.{Bor}
+-- What notes in memory hold, for the line that they are about.
+use Rattle.std.specs.Prelude.{◌≡◌, ℕ, List, [], ◌∷◌, ◌++◌, map, length, take, drop, Option, position}
 use Rattle.std.specs.Str.{bytes_eq}
 use Rattle.grammar.specs.declared.statement.Statement.{Statement}
 use Rattle.grammar.specs.declared.statement.Statement.TheVariants.{Kind, Feature}
 use Rattle.grammar.specs.declared.statement.Said.{Said}
 use Rattle.declarations.specs.Names.{listed}
 use Rattle.grammar.specs.Told.{Told, index}
+use Rattle.reading.specs.declared.span.Span.{Span}
 use Rattle.reading.specs.declared.notes.Notes.{Notes}
 use Rattle.reading.specs.declared.reader.Named as found
 
+abbrev pub part : List ℕ → Span → List ℕ
+part line s = take s.len (drop s.place line)
+
 -- a statement with the bytes of its kind text
-abbrev pub statement_of : Statement (Bor (List ℕ)) → Statement (List ℕ)
-statement_of (Kind x k) = Kind x k.now
-statement_of (Feature x f y) = Feature x f y
+abbrev pub statement_in : List ℕ → Statement Span → Statement (List ℕ)
+statement_in line (Kind x s) = Kind x (part line s)
+statement_in line (Feature x f y) = Feature x f y
 
-abbrev pub said_of : Said (Bor (List ℕ)) → Said (List ℕ)
-said_of s = record { statement = statement_of s.statement; place = s.place }
+abbrev pub said_in : List ℕ → Said Span → Said (List ℕ)
+said_in line s = record { statement = statement_in line s.statement; place = s.place }
 
-abbrev pub noted : Notes → Told
-noted n = record { names = map (λ w. w.now) n.names.items; said = map said_of n.said.items; wrong = n.wrong }
+abbrev pub noted : List ℕ → Notes → Told
+noted line n = record { names = map (part line) n.names.items; said = map (said_in line) n.said.items; wrong = n.wrong }
 
 -- how many variables and statements they hold
 abbrev pub variables : Notes → ℕ
@@ -29,8 +32,8 @@ abbrev pub statements : Notes → ℕ
 statements n = length n.said.items
 
 -- the number of a name, as the code searches for it
-unfoldable pub first_named : List ℕ → List (Bor (List ℕ)) → Option ℕ
-first_named w names = position (λ n. bytes_eq w n.now) names
+unfoldable pub first_named : List ℕ → List ℕ → List Span → Option ℕ
+first_named line w names = position (λ n. bytes_eq w (part line n)) names
 
 -- one variable more, with this name
 abbrev pub with_name : List ℕ → Told → Told

@@ -143,14 +143,14 @@ RoomAfter i n = (variables n ≤ (i + 4) / 5) × (statements n + 1 ≤ 2 * ((i +
 abbrev pub TermRead : List (List ℕ) → List ℕ → Option Link → ℕ → ℕ → Notes → Notes → Result ℕ Refusal → Type 0
 TermRead features line from i d n m (Ok j) =
     (t : Tree) × LawfulTree limits d t × Spans line i j (written t) × Ended line j d
-    × (noted m ≡ tell features t i (linked from (variable t (noted n)) (noted n))) × RoomAfter j m
+    × (noted line m ≡ tell features t i (linked from (variable t (noted line n)) (noted line n))) × RoomAfter j m
 TermRead features line from i d n m (Err e) = Fails line e
 
 -- the items of x from the parenthesis or the comma at i on, to the end of their list
 abbrev pub ListRead : List (List ℕ) → List ℕ → ℕ → List (List ℕ) → ℕ → ℕ → Notes → Notes → Result ℕ Refusal → Type 0
 ListRead features line x words i d n m (Ok j) =
     (f : List ℕ) × (u : Tree) × (rest : Items) × LawfulItems limits (suc d) (item f u rest) × Spans line (i + 1) j (f ++ 61 ∷ 62 ∷ (written u ++ more rest))
-    × (here line j ≡ Some (state closed d)) × (noted m ≡ tell_items features (item f u rest) x words i (noted n)) × RoomAfter j m
+    × (here line j ≡ Some (state closed d)) × (noted line m ≡ tell_items features (item f u rest) x words i (noted line n)) × RoomAfter j m
 ListRead features line x words i d n m (Err e) = Fails line e
 
 -- the whole line, as one term
@@ -160,8 +160,13 @@ RootRead features line before after (Err e) = Fails line e
 
 -- reasons 1 to 3, or what the tree of the line says
 abbrev pub NotesOf : List (List ℕ) → List ℕ → Result Notes Refusal → Type 0
-NotesOf features line (Ok n) = (l : Line line) × (noted n ≡ told features l.tree) × ((told features l.tree).wrong ≡ None)
+NotesOf features line (Ok n) = (l : Line line) × (noted line n ≡ told features l.tree) × ((told features l.tree).wrong ≡ None)
 NotesOf features line (Err e) =
     (TooMuch line × (row e ≡ record { number = 1; values = 0 ∷ [] }))
     ⊎ (((TooMuch line → ⊥) × (p : ℕ) × Breaks Grammar line p × (row e ≡ record { number = 2; values = p ∷ [] }))
     ⊎ ((l : Line line) × (p : ℕ) × ((told features l.tree).wrong ≡ Some p) × (row e ≡ record { number = 3; values = p ∷ [] })))
+
+-- the same of notes that are filled
+abbrev pub NotesIn : List (List ℕ) → List ℕ → Notes → Result (Unit {0}) Refusal → Type 0
+NotesIn features line n (Ok _) = NotesOf features line (Ok n)
+NotesIn features line n (Err e) = NotesOf features line (Err e)

@@ -1,15 +1,16 @@
 // A reader over a lent line: its words, and what it notes of them.
-ghost use Rattle.std.specs.Prelude.{◌≡◌, ℕ, ◌+◌, ◌<◌, ◌≤◌, length};
+ghost use Rattle.std.specs.Prelude.{◌≡◌, ℕ, ◌+◌, ◌<◌, ◌≤◌, List, length};
 ghost use Rattle.features.specs.Model.{number_of};
 ghost use Rattle.grammar.specs.declared.statement.Statement.TheVariants.{Kind};
 ghost use Rattle.grammar.specs.Told.{nothing};
 ghost use Rattle.grammar.specs.Told.{meet as met, meet_unnamed, say as saying, mark as marked};
 ghost use Rattle.grammar.specs.Words.{capital};
 ghost use Rattle.reading.specs.Links.{linked, links};
-ghost use Rattle.reading.specs.Notes.{noted, statement_of, variables, statements, first_named, with_name, Named as Naming};
+ghost use Rattle.reading.specs.Notes.{noted, part, statement_in, variables, statements, first_named, with_name, Named as Naming};
 ghost use Rattle.reading.specs.Reading.{byte_at, mark_of, in_class, first_outside, leading, TokenAt, ShortWord};
 
 use crate::notes::Notes;
+use crate::span::{Span, bytes_of};
 use declarations::line::is_name_byte;
 use declarations::name::LONGEST_NAME;
 use features::table::Features;
@@ -101,8 +102,11 @@ struct Link {
     place: usize,
 }
 
+// A part of no bytes.
+const EMPTY: Span = Span { place: 0, len: 0 };
+
 // What the room has where nothing is said yet.
-const UNSAID: Said<&[u8]> = Said {
+const UNSAID: Said<Span> = Said {
     statement: Statement::Feature {
         variable: 0,
         feature: 0,
@@ -112,27 +116,36 @@ const UNSAID: Said<&[u8]> = Said {
 };
 
 // That there is room for one more is required here, and shown from the line's length: so none of these can fail.
-impl<'a> Notes<'a> {
+impl Notes {
     // Nothing is found yet.
-    fn new() -> Notes<'a>
-        ensures { noted result ≡ nothing }
+    pub fn new() -> Notes
+        ensures { (line : List ℕ) → noted line result ≡ nothing }
     {
         Notes {
-            names: ShortList::empty(b""),
+            names: ShortList::empty(EMPTY),
             said: ShortList::empty(UNSAID),
             wrong: None,
         }
     }
 
+    // Nothing is found any more: what lies in the room means nothing, and stays.
+    fn clear(&mut self)
+        ensures { (line : List ℕ) → noted line self.new ≡ nothing }
+    {
+        self.names.len = 0;
+        self.said.len = 0;
+        self.wrong = None;
+    }
+
     // The variable of a name, a new one where the name was not met before.
     #[tactic(auto, using(crate::proofs::Noting::old_meets, crate::proofs::Noting::old_told, crate::proofs::Noting::new_told))]
-    fn meet(&mut self, name: &'a [u8]) -> Named
+    fn meet(&mut self, line: &[u8], name: Span) -> Named
         requires { variables self.old < 200 }
-        ensures answer { Naming name.now (noted self.old).names result }
-        ensures told { noted self.new ≡ met name.now (noted self.old) }
+        ensures answer { Naming (part line.now name) (noted line.now self.old).names result }
+        ensures told { noted line.now self.new ≡ met (part line.now name) (noted line.now self.old) }
         ensures counts { (variables self.new ≤ variables self.old + 1) × (statements self.new ≡ statements self.old) }
     {
-        match self.find(name) {
+        match self.find(line, bytes_of(line, name)) {
             Some(variable) => Named {
                 variable,
                 known: true,
@@ -147,26 +160,26 @@ impl<'a> Notes<'a> {
     // A new variable without a name.
     fn meet_unnamed(&mut self) -> usize
         requires { variables self.old < 200 }
-        ensures answer { result ≡ length (noted self.old).names }
-        ensures told { noted self.new ≡ meet_unnamed (noted self.old) }
+        ensures answer { (line : List ℕ) → result ≡ length (noted line self.old).names }
+        ensures told { (line : List ℕ) → noted line self.new ≡ meet_unnamed (noted line self.old) }
         ensures counts { (variables self.new ≡ variables self.old + 1) × (statements self.new ≡ statements self.old) }
     {
-        self.add(b"")
+        self.add(EMPTY)
     }
 
     // The number of the variable with this name.
     #[tactic(auto, using(crate::proofs::Noting::number_found))]
-    fn find(&self, name: &[u8]) -> Option<usize>
-        ensures { result ≡ number_of name.now (noted self.now).names }
+    fn find(&self, line: &[u8], name: &[u8]) -> Option<usize>
+        ensures { result ≡ number_of name.now (noted line.now self.now).names }
     {
-        first_named(self.names.as_slice(), name)
+        first_named(line, self.names.as_slice(), name)
     }
 
     // One variable more, and its number.
-    fn add(&mut self, name: &'a [u8]) -> usize
+    fn add(&mut self, name: Span) -> usize
         requires { variables self.old < 200 }
-        ensures answer { result ≡ length (noted self.old).names }
-        ensures told { noted self.new ≡ with_name name.now (noted self.old) }
+        ensures answer { (line : List ℕ) → result ≡ length (noted line self.old).names }
+        ensures told { (line : List ℕ) → noted line self.new ≡ with_name (part line name) (noted line self.old) }
         ensures counts { (variables self.new ≡ variables self.old + 1) × (statements self.new ≡ statements self.old) }
     {
         let variable = self.names.len();
@@ -175,9 +188,9 @@ impl<'a> Notes<'a> {
     }
 
     // One statement more, from the word at this place.
-    fn say(&mut self, statement: Statement<&'a [u8]>, place: usize)
+    fn say(&mut self, statement: Statement<Span>, place: usize)
         requires { statements self.old < 399 }
-        ensures told { noted self.new ≡ saying (statement_of statement.entry) place (noted self.old) }
+        ensures told { (line : List ℕ) → noted line self.new ≡ saying (statement_in line statement) place (noted line self.old) }
         ensures counts { (variables self.new ≡ variables self.old) × (statements self.new ≡ statements self.old + 1) }
     {
         let _ = self.said.push(Said { statement, place });
@@ -186,7 +199,7 @@ impl<'a> Notes<'a> {
     // Says that the value of the link, if there is one, is this variable.
     fn say_link(&mut self, from: Option<Link>, value: usize)
         requires { statements self.old + links from < 400 }
-        ensures told { noted self.new ≡ linked from value (noted self.old) }
+        ensures told { (line : List ℕ) → noted line self.new ≡ linked from value (noted line self.old) }
         ensures counts { (variables self.new ≡ variables self.old) × (statements self.new ≡ statements self.old + links from) }
     {
         if let Some(link) = from {
@@ -200,15 +213,15 @@ impl<'a> Notes<'a> {
     }
 
     // A kind text is said of a variable.
-    fn say_kind(&mut self, variable: usize, text: Token<'a>)
+    fn say_kind(&mut self, variable: usize, text: Token<'_>)
         requires { statements self.old < 399 }
-        ensures told { noted self.new ≡ saying (Kind variable text.entry.text.now) text.entry.place (noted self.old) }
+        ensures told { (line : List ℕ) → noted line self.new ≡ saying (Kind variable (part line (record { place = text.entry.place; len = length text.entry.text.now }))) text.entry.place (noted line self.old) }
         ensures counts { (variables self.new ≡ variables self.old) × (statements self.new ≡ statements self.old + 1) }
     {
         self.say(
             Statement::Kind {
                 variable,
-                kind: text.text,
+                kind: text.span(),
             },
             text.place,
         );
@@ -216,7 +229,7 @@ impl<'a> Notes<'a> {
 
     // The name at this place is described: wrong where it was met before.
     fn describe(&mut self, found: Named, place: usize)
-        ensures told { noted self.new ≡ marked found.known place (noted self.old) }
+        ensures told { (line : List ℕ) → noted line self.new ≡ marked found.known place (noted line self.old) }
         ensures counts { (variables self.new ≡ variables self.old) × (statements self.new ≡ statements self.old) }
     {
         self.mark(found.known, place);
@@ -224,7 +237,7 @@ impl<'a> Notes<'a> {
 
     // The word at this place is wrong if the test says so. The leftmost counts.
     fn mark(&mut self, wrong: bool, place: usize)
-        ensures told { noted self.new ≡ marked wrong place (noted self.old) }
+        ensures told { (line : List ℕ) → noted line self.new ≡ marked wrong place (noted line self.old) }
         ensures counts { (variables self.new ≡ variables self.old) × (statements self.new ≡ statements self.old) }
     {
         if wrong && self.wrong.is_none() {
@@ -235,10 +248,10 @@ impl<'a> Notes<'a> {
 
 // The first of the names that is this word. One line of the library: a trait for what has a name would be longer than its uses.
 #[tactic(auto, unfolding(crate::specs::Notes::first_named))]
-fn first_named(names: &[&[u8]], word: &[u8]) -> Option<usize>
-    ensures { result ≡ first_named word.now names.now }
+fn first_named(line: &[u8], names: &[Span], word: &[u8]) -> Option<usize>
+    ensures { result ≡ first_named line.now word.now names.now }
 {
-    names.iter().position(|name| word == *name)
+    names.iter().position(|name| word == bytes_of(line, *name))
 }
 
 fn is_capital(byte: u8) -> bool
@@ -274,6 +287,18 @@ impl Class {
         ensures { result ≡ first_outside self bytes.now }
     {
         bytes.iter().position(|byte| !self.has(*byte))
+    }
+}
+
+impl Token<'_> {
+    // The word by its place and length.
+    fn span(&self) -> Span
+        ensures { result ≡ record { place = self.now.place; len = length self.now.text.now } }
+    {
+        Span {
+            place: self.place,
+            len: self.text.len(),
+        }
     }
 }
 

@@ -27,14 +27,14 @@ Settled {K} m F room line us r =
     (s : Result (Unit {0}) Refusal) (vs : List (Said K)) → Answers m F room line vs s → (s ≡ r) × (is_ok r ≡ true → vs ≡ us)
 
 module _ {K : Type 0} (m : Texts K) (F : List (List ℕ)) (features : ℕ) (line : List ℕ) (notes : Notes) (f : Found F features line notes) where
-  told-said : (noted notes).said ≡ (told F f.words.tree).said
+  told-said : (noted line notes).said ≡ (told F f.words.tree).said
   told-said = ap (λ t. t.said) f.same
 
   -- a text that no kind has
-  pub refused_kind : (room p : ℕ) → WrongKind m (noted notes).said p → Refuses m F room line (Kind p)
+  pub refused_kind : (room p : ℕ) → WrongKind m (noted line notes).said p → Refuses m F room line (Kind p)
   refused_kind room p w = inr (inr (inr (inl (f.words, f.right, p, subst (λ ss. WrongKind m ss p) told-said w, refl))))
 
-  module _ (us : List (Said K)) (o : OnlyReads m (noted notes).said us) where
+  module _ (us : List (Said K)) (o : OnlyReads m (noted line notes).said us) where
     only_told : OnlyReads m (told F f.words.tree).said us
     only_told = subst (λ ss. OnlyReads m ss us) told-said o
 

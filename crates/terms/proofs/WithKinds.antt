@@ -1,5 +1,5 @@
 -- Noted statements that are read one by one, each with its kind.
-use Rattle.std.proofs.Common.{◌≡◌, ℕ, ◌+◌, ◌<◌, true, false, List, [], ◌∷◌, ◌++◌, map, length, get_or, take, drop, is_some, Some, None, Option, Bor, sym, refl, ap, ◌∙◌, subst}
+use Rattle.std.proofs.Common.{◌≡◌, ℕ, ◌+◌, ◌<◌, true, false, List, [], ◌∷◌, ◌++◌, map, length, get_or, take, drop, is_some, Some, None, Option, sym, refl, ap, ◌∙◌, subst}
 use Rattle.std.proofs.lemmas.List.{take-append-drop, drop_more, map_more, map-append}
 use Rattle.std.proofs.lemmas.Bool.{false≢true}
 use Rattle.orders.specs.Texts.{Texts}
@@ -9,7 +9,8 @@ use Rattle.grammar.specs.declared.statement.Said.{Said}
 use Rattle.grammar.specs.Lines.{WrongKind}
 use Rattle.grammar.specs.Only.{OnlyStatement, OnlyReads}
 use Rattle.grammar.proofs.OnlyKinds.{only_snoc, only_reads, read_not_wrong}
-use Rattle.reading.specs.Notes.{statement_of, said_of}
+use Rattle.reading.specs.declared.span.Span.{Span}
+use Rattle.reading.specs.Notes.{statement_in, said_in}
 use Rattle.terms.specs.Kinds.{StatementOf, NoStatement, Readable}
 
 -- a list, by what stands at i
@@ -54,20 +55,20 @@ module _ {K : Type 0} (m : Texts K) where
   its_statement s (Some u) h e = (u, h)
   its_statement s None h e = absurd (false≢true e)
 
-  module _ (xs : List (Said (Bor (List ℕ)))) (d : Said (Bor (List ℕ))) (i : ℕ) (l : i < length xs) where
-    pub read_more : (us : List (Said K)) (u : Statement K) → OnlyReads m (map said_of (take i xs)) us →
-        OnlyStatement m (statement_of (get_or xs i d).statement) u →
-        OnlyReads m (map said_of (take (i + 1) xs)) (us ++ record { statement = u; place = (get_or xs i d).place } ∷ [])
+  module _ (line : List ℕ) (xs : List (Said Span)) (d : Said Span) (i : ℕ) (l : i < length xs) where
+    pub read_more : (us : List (Said K)) (u : Statement K) → OnlyReads m (map (said_in line) (take i xs)) us →
+        OnlyStatement m (statement_in line (get_or xs i d).statement) u →
+        OnlyReads m (map (said_in line) (take (i + 1) xs)) (us ++ record { statement = u; place = (get_or xs i d).place } ∷ [])
     read_more us u h o =
-        subst (λ ss. OnlyReads m ss (us ++ record { statement = u; place = (get_or xs i d).place } ∷ [])) (sym (map_more said_of xs i d l))
-        (only_snoc m (map said_of (take i xs)) us (said_of (get_or xs i d)) (record { statement = u; place = (get_or xs i d).place }) h o refl)
+        subst (λ ss. OnlyReads m ss (us ++ record { statement = u; place = (get_or xs i d).place } ∷ [])) (sym (map_more (said_in line) xs i d l))
+        (only_snoc m (map (said_in line) (take i xs)) us (said_in line (get_or xs i d)) (record { statement = u; place = (get_or xs i d).place }) h o refl)
 
-    pub wrong_at : Readable m (map said_of (take i xs)) → NoStatement m (statement_of (get_or xs i d).statement) →
-        WrongKind m (map said_of xs) (get_or xs i d).place
+    pub wrong_at : Readable m (map (said_in line) (take i xs)) → NoStatement m (statement_in line (get_or xs i d).statement) →
+        WrongKind m (map (said_in line) xs) (get_or xs i d).place
     wrong_at r w =
-        wrong-here _ (map said_of (take i xs)) _ (statement_of (get_or xs i d).statement) (get_or xs i d).place (split-map said_of xs i d l) r w
+        wrong-here _ (map (said_in line) (take i xs)) _ (statement_in line (get_or xs i d).statement) (get_or xs i d).place (split-map (said_in line) xs i d l) r w
 
     -- where all can be read, this one can
-    pub no_wrong : Readable m (map said_of (take i xs)) → Readable m (map said_of xs) → NoStatement m (statement_of (get_or xs i d).statement) → ⊥
+    pub no_wrong : Readable m (map (said_in line) (take i xs)) → Readable m (map (said_in line) xs) → NoStatement m (statement_in line (get_or xs i d).statement) → ⊥
     no_wrong r all w =
-        read_not_wrong m (map said_of xs) all.0 (get_or xs i d).place (only_reads m _ all.0 all.1) (wrong_at r w)
+        read_not_wrong m (map (said_in line) xs) all.0 (get_or xs i d).place (only_reads m _ all.0 all.1) (wrong_at r w)

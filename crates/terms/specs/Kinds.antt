@@ -41,5 +41,5 @@ ChecksKinds m ss (Err e) = (p : ℕ) × WrongKind m ss p × (e ≡ WrongText p)
 pub record Found (features : List (List ℕ)) (count : ℕ) (line : List ℕ) (notes : Notes) : Type 0 where
   pub many : length features ≡ count
   pub words : Line line
-  pub same : noted notes ≡ told features words.tree
+  pub same : noted line notes ≡ told features words.tree
   pub right : (told features words.tree).wrong ≡ None

@@ -10,7 +10,7 @@ ghost use Rattle.kinds.specs.Model.{kinds_of, Gathers, Fresh, Reads};
 ghost use Rattle.kinds.specs.Stored.{declaration, with_new};
 
 use crate::draft::Draft;
-use crate::table::{ANY, Kind, MOST, Table};
+use crate::table::{Kind, MOST, Table};
 use declarations::line::{break_at, name_end, word_end};
 use declarations::name::Name;
 use refusals::{LONGEST_LINE, Refusal};
@@ -102,24 +102,34 @@ impl Table {
         ensures after { kinds_of self.new ≡ kinds_of self.old ++ declaration kind.now ∷ [] }
     {
         let number = self.len();
-        let kinds = with_kind(self.kinds.as_slice(), kind);
-        *self = Table { kinds };
+        put_kind(&mut self.kinds, kind);
         number
     }
 }
 
-// The kinds with one more behind them, which each row has that is to have it.
-fn with_kind(kinds: &[Kind], kind: &Kind) -> ShortList<Kind, MOST>
-    requires { length kinds.now < 64 }
-    ensures { result.items ≡ map (with_new kind.now) kinds.now ++ kind.now ∷ [] }
+// Puts a kind behind the others. In place: a table made anew would be copied whole, three kibibytes for each line.
+fn put_kind(kinds: &mut ShortList<Kind, MOST>, kind: &Kind)
+    requires { length kinds.old.items < 64 }
+    ensures { kinds.new.items ≡ map (with_new kind.now) kinds.old.items ++ kind.now ∷ [] }
 {
-    let mut grown = ShortList::empty(ANY);
-    for earlier in kinds {
-        let _ = grown.push(with_new(earlier, kind));
-    }
+    grow_kinds(kinds, kind);
     let last = *kind;
-    let _ = grown.push(last);
-    grown
+    let _ = kinds.push(last);
+}
+
+// Gives the bit of a kind that is declared to each row that is to have it.
+fn grow_kinds(kinds: &mut ShortList<Kind, MOST>, kind: &Kind)
+    ensures { kinds.new.items ≡ map (with_new kind.now) kinds.old.items }
+{
+    grow_rows(&mut kinds.room[..kinds.len], kind);
+}
+
+fn grow_rows(kinds: &mut [Kind], kind: &Kind)
+    ensures { kinds.new ≡ map (with_new kind.now) kinds.old }
+{
+    for earlier in kinds.iter_mut() {
+        *earlier = with_new(earlier, kind);
+    }
 }
 
 // An earlier kind once this one is declared.

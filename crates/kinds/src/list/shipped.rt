@@ -6,7 +6,7 @@ ghost use Rattle.kinds.specs.Shipped.{shipped_lines};
 
 use super::List;
 use crate::draft::Draft;
-use crate::table::{ANY, ANY_NAME, Kind, MOST, Table};
+use crate::table::{ANY_NAME, Kind, Table, UNUSED};
 use declarations::name::Name;
 use refusals::Refusal;
 use short_lists::ShortList;
@@ -119,31 +119,85 @@ const FEE: Kind = Kind {
 
 // Ten kinds: 1 `credit any`, 2 `debit any`, 3 `by_dd any`, 4 `receipt credit`, 5 `rent receipt`, 6 `returned debit`,
 // 7 `returned_dd returned by_dd`, 8 `rent_dd rent by_dd`, 9 `fee debit`.
-pub const SHIPPED: [Kind; 10] = [
-    WIDEST,
-    CREDIT,
-    DEBIT,
-    BY_DD,
-    RECEIPT,
-    RENT,
-    RETURNED,
-    RETURNED_DD,
-    RENT_DD,
-    FEE,
-];
+pub const SHIPPED: List = List {
+    table: Table {
+        kinds: ShortList {
+            room: [
+                WIDEST,
+                CREDIT,
+                DEBIT,
+                BY_DD,
+                RECEIPT,
+                RENT,
+                RETURNED,
+                RETURNED_DD,
+                RENT_DD,
+                FEE,
+                UNUSED,
+                UNUSED,
+                UNUSED,
+                UNUSED,
+                UNUSED,
+                UNUSED,
+                UNUSED,
+                UNUSED,
+                UNUSED,
+                UNUSED,
+                UNUSED,
+                UNUSED,
+                UNUSED,
+                UNUSED,
+                UNUSED,
+                UNUSED,
+                UNUSED,
+                UNUSED,
+                UNUSED,
+                UNUSED,
+                UNUSED,
+                UNUSED,
+                UNUSED,
+                UNUSED,
+                UNUSED,
+                UNUSED,
+                UNUSED,
+                UNUSED,
+                UNUSED,
+                UNUSED,
+                UNUSED,
+                UNUSED,
+                UNUSED,
+                UNUSED,
+                UNUSED,
+                UNUSED,
+                UNUSED,
+                UNUSED,
+                UNUSED,
+                UNUSED,
+                UNUSED,
+                UNUSED,
+                UNUSED,
+                UNUSED,
+                UNUSED,
+                UNUSED,
+                UNUSED,
+                UNUSED,
+                UNUSED,
+                UNUSED,
+                UNUSED,
+                UNUSED,
+                UNUSED,
+                UNUSED,
+            ],
+            len: 10,
+        },
+    },
+};
 
-// The list of these kinds, whose facts are proved here.
+// The constant, whose facts are proved here.
 fn listed() -> List
     ensures { listing result ≡ shipped_kinds }
 {
-    let mut room = [ANY; MOST];
-    room[..SHIPPED.len()].copy_from_slice(&SHIPPED);
-    let len = SHIPPED.len();
-    List {
-        table: Table {
-            kinds: ShortList { room, len },
-        },
-    }
+    SHIPPED
 }
 
 // The shipped list as a value of its own.

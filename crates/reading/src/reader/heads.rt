@@ -29,14 +29,14 @@ fn is_deepest(depth: usize) -> bool
 // numbers within the line: a type for them would be taken apart at each step for the place that a token or a refusal keeps.
 impl<'a, 'f> Reader<'a, 'f> {
     // A name and, where a colon follows, the colon.
-    fn named(&self, notes: &mut Notes<'a>, from: Option<Link>, at: usize) -> Result<Head, Refusal>
+    fn named(&self, notes: &mut Notes, from: Option<Link>, at: usize) -> Result<Head, Refusal>
         requires { (at < length self.now.line.now) × ((capital (slice_index self.now.line.now at) ≡ true) × ((variables notes.old < 200) × (statements notes.old + links from < 400))) }
-        ensures answer { (d : ℕ) → here self.now.line.now at ≡ Some (state begin d) → HeadRead self.now.line.now from at d (noted notes.old) (noted notes.new) result }
+        ensures answer { (d : ℕ) → here self.now.line.now at ≡ Some (state begin d) → HeadRead self.now.line.now from at d (noted self.now.line.now notes.old) (noted self.now.line.now notes.new) result }
         ensures counts { (variables notes.new ≤ variables notes.old + 1) × (statements notes.new ≤ statements notes.old + links from) }
     {
         let name = self.short_word(Class::Name, at)?;
         let end = at + name.text.len();
-        let found = notes.meet(name.text);
+        let found = notes.meet(self.line, name.span());
         notes.say_link(from, found.variable);
         match self.mark(end) {
             Mark::Colon => {
@@ -51,9 +51,9 @@ impl<'a, 'f> Reader<'a, 'f> {
     }
 
     // The front of a term, with its variable and the statement that leads to it.
-    fn head(&self, notes: &mut Notes<'a>, from: Option<Link>, at: usize) -> Result<Head, Refusal>
+    fn head(&self, notes: &mut Notes, from: Option<Link>, at: usize) -> Result<Head, Refusal>
         requires { (at ≤ length self.now.line.now) × ((at < length self.now.line.now → (variables notes.old < 200) × (statements notes.old + links from < 400))) }
-        ensures answer { (d : ℕ) → here self.now.line.now at ≡ Some (state begin d) → HeadRead self.now.line.now from at d (noted notes.old) (noted notes.new) result }
+        ensures answer { (d : ℕ) → here self.now.line.now at ≡ Some (state begin d) → HeadRead self.now.line.now from at d (noted self.now.line.now notes.old) (noted self.now.line.now notes.new) result }
         ensures counts { (variables notes.new ≤ variables notes.old + 1) × (statements notes.new ≤ statements notes.old + links from) }
     {
         let Some(byte) = self.byte(at) else {
@@ -73,13 +73,13 @@ impl<'a, 'f> Reader<'a, 'f> {
     // The kind text of a description, with its statement.
     fn body(
         &self,
-        notes: &mut Notes<'a>,
+        notes: &mut Notes,
         variable: usize,
         at: usize,
         depth: usize,
     ) -> Result<Body, Refusal>
         requires { (at ≤ length self.now.line.now) × (statements notes.old < 399) }
-        ensures answer { AtKind self.now.line.now at depth → BodyRead self.now.line.now variable at depth (noted notes.old) (noted notes.new) result }
+        ensures answer { AtKind self.now.line.now at depth → BodyRead self.now.line.now variable at depth (noted self.now.line.now notes.old) (noted self.now.line.now notes.new) result }
         ensures counts { (variables notes.new ≡ variables notes.old) × (statements notes.new ≤ statements notes.old + 1) }
     {
         let text = self.word(Class::Kind, at);

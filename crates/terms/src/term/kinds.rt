@@ -6,8 +6,7 @@ ghost use Rattle.grammar.specs.Lines.{Answers};
 ghost use Rattle.grammar.specs.Lawful.{depths as depths_of, statements as statements_of};
 ghost use Rattle.grammar.specs.Only.{OnlyReads};
 ghost use Rattle.features.specs.Model.{feature_names};
-ghost use Rattle.reading.specs.Notes.{statement_of};
-ghost use Rattle.reading.specs.Notes.{said_of as in_line};
+ghost use Rattle.reading.specs.Notes.{statement_in, said_in};
 ghost use Rattle.terms.specs.Kinds.{StatementOf, FirstWrong, ChecksKinds, Readable, Found};
 ghost use Rattle.terms.specs.Terms.{said_of, room_of, features_of, depths_in};
 
@@ -17,16 +16,21 @@ use grammar::statement::{Said, Statement};
 use orders::texts::WrittenOrder;
 use orders::whole::whole_kind;
 use reading::notes::Notes;
-use reading::reader::heads::trees::note;
+use reading::reader::heads::trees::note_in;
+use reading::span::{Span, bytes_of};
 use refusals::Refusal;
 
 // A statement with the kind that has its text, or none where no kind has it.
-fn with_kind<O: WrittenOrder>(order: &O, statement: Statement<&[u8]>) -> Option<Statement<O::Kind>>
-    ensures { StatementOf (O.texts order.now) (statement_of statement.entry) result }
+fn with_kind<O: WrittenOrder>(
+    order: &O,
+    line: &[u8],
+    statement: Statement<Span>,
+) -> Option<Statement<O::Kind>>
+    ensures { StatementOf (O.texts order.now) (statement_in line.now statement) result }
 {
     match statement {
         Statement::Kind { variable, kind } => {
-            let kind = whole_kind(order, kind)?;
+            let kind = whole_kind(order, bytes_of(line, kind))?;
             Some(Statement::Kind { variable, kind })
         }
         Statement::Feature {
@@ -43,12 +47,12 @@ fn with_kind<O: WrittenOrder>(order: &O, statement: Statement<&[u8]>) -> Option<
 
 // The place of the first kind text that no kind has.
 #[tactic(auto, using(crate::proofs::WithKinds::wrong_at, crate::proofs::WithKinds::no_kind))]
-fn first_wrong<O: WrittenOrder>(order: &O, noted: &[Said<&[u8]>]) -> Option<usize>
-    ensures { FirstWrong (O.texts order.now) (map in_line noted.now) result }
+fn first_wrong<O: WrittenOrder>(order: &O, line: &[u8], noted: &[Said<Span>]) -> Option<usize>
+    ensures { FirstWrong (O.texts order.now) (map (said_in line.now) noted.now) result }
 {
     // With `find` the proof did not close: the kinds of those before are wanted too, and its clause does not give them.
     for said in noted {
-        if with_kind(order, said.statement).is_none() {
+        if with_kind(order, line, said.statement).is_none() {
             return Some(said.place);
         }
     }
@@ -56,17 +60,17 @@ fn first_wrong<O: WrittenOrder>(order: &O, noted: &[Said<&[u8]>]) -> Option<usiz
 }
 
 // That all kinds can be read, or the refusal of the first kind text that no kind has.
-fn check_kinds<O: WrittenOrder>(order: &O, noted: &[Said<&[u8]>]) -> Result<(), Refusal>
-    ensures { ChecksKinds (O.texts order.now) (map in_line noted.now) result }
+fn check_kinds<O: WrittenOrder>(order: &O, line: &[u8], noted: &[Said<Span>]) -> Result<(), Refusal>
+    ensures { ChecksKinds (O.texts order.now) (map (said_in line.now) noted.now) result }
 {
-    match first_wrong(order, noted) {
+    match first_wrong(order, line, noted) {
         Some(place) => Err(Refusal::Kind { place }),
         None => Ok(()),
     }
 }
 
 // Whether there is room for fewer statements than these.
-fn is_short(room: usize, noted: &[Said<&[u8]>]) -> bool
+fn is_short(room: usize, noted: &[Said<Span>]) -> bool
     ensures { result ≡ nat_lt room (length noted.now) }
 {
     noted.len() > room
@@ -116,13 +120,14 @@ fn push<K: Copy>(rows: &mut Vec<Said<K>>, depths: &mut Vec<usize>, said: Said<K>
 // Noted statements, each with its kind, in the place of those in memory.
 fn fill<O: WrittenOrder>(
     order: &O,
-    noted: &[Said<&[u8]>],
+    line: &[u8],
+    noted: &[Said<Span>],
     rows: &mut Vec<Said<O::Kind>>,
     depths: &mut Vec<usize>,
 )
-    requires kinds { Readable (O.texts order.now) (map in_line noted.now) }
+    requires kinds { Readable (O.texts order.now) (map (said_in line.now) noted.now) }
     requires room { (length noted.now ≤ vec_capacity rows.old) × (length noted.now + 1 ≤ vec_capacity depths.old) }
-    ensures read { OnlyReads (O.texts order.now) (map in_line noted.now) rows.new.items }
+    ensures read { OnlyReads (O.texts order.now) (map (said_in line.now) noted.now) rows.new.items }
     ensures deep { depths.new.items ≡ depths_of (statements_of rows.new.items) }
     ensures capacity { (vec_capacity rows.new ≡ vec_capacity rows.old) × (vec_capacity depths.new ≡ vec_capacity depths.old) }
 {
@@ -130,7 +135,7 @@ fn fill<O: WrittenOrder>(
     depths.clear();
     put_root(depths);
     for said in noted {
-        let statement = with_kind(order, said.statement).unwrap();
+        let statement = with_kind(order, line, said.statement).unwrap();
         let place = said.place;
         push(rows, depths, Said { statement, place });
     }
@@ -141,23 +146,24 @@ fn finish<K: Copy, O: WrittenOrder<Kind = K>>(
     term: &mut Term<K>,
     order: &O,
     features: usize,
-    notes: &Notes<'_>,
+    line: &[u8],
+    notes: &Notes,
 ) -> Result<(), Refusal>
-    requires { (F : List (List ℕ)) × (line : List ℕ) × Found F features line notes.now }
-    ensures answer { (F : List (List ℕ)) (line : List ℕ) → Found F features line notes.now → Answers (O.texts order.now) F (room_of term.old) line (said_of term.new) result }
-    ensures fixed { (F : List (List ℕ)) (line : List ℕ) → Found F features line notes.now → (s : Answered (Unit {0}) Refused) (vs : List (Row K)) → Answers (O.texts order.now) F (room_of term.old) line vs s → (s ≡ result) × (is_ok result ≡ true → vs ≡ said_of term.new) }
+    requires { (F : List (List ℕ)) × Found F features line.now notes.now }
+    ensures answer { (F : List (List ℕ)) → Found F features line.now notes.now → Answers (O.texts order.now) F (room_of term.old) line.now (said_of term.new) result }
+    ensures fixed { (F : List (List ℕ)) → Found F features line.now notes.now → (s : Answered (Unit {0}) Refused) (vs : List (Row K)) → Answers (O.texts order.now) F (room_of term.old) line.now vs s → (s ≡ result) × (is_ok result ≡ true → vs ≡ said_of term.new) }
     ensures kept { is_err result ≡ true → term.new ≡ term.old }
     ensures few { is_ok result ≡ true → (length (said_of term.new) ≤ 399) × (length (depths_in term.new) ≤ 200) }
     ensures fields { (room_of term.new ≡ room_of term.old) × (is_ok result ≡ true → features_of term.new ≡ features) }
 {
     let noted = notes.said.as_slice();
-    if let Err(refusal) = check_kinds(order, noted) {
+    if let Err(refusal) = check_kinds(order, line, noted) {
         return Err(refusal);
     }
     if is_short(term.room, noted) {
         return Err(Refusal::Memory);
     }
-    fill(order, noted, &mut term.rows, &mut term.depths);
+    fill(order, line, noted, &mut term.rows, &mut term.depths);
     term.features = features;
     Ok(())
 }
@@ -176,8 +182,10 @@ fn read_line<K: Copy, O: WrittenOrder<Kind = K>>(
     ensures few { is_ok result ≡ true → (length (said_of term.new) ≤ 399) × (length (depths_in term.new) ≤ 200) }
     ensures fields { (room_of term.new ≡ room_of term.old) × (is_ok result ≡ true → features_of term.new ≡ length (feature_names features.now)) }
 {
-    match note(features, line) {
-        Ok(notes) => finish(term, order, features.len(), &notes),
+    // The notes are filled in place: they have twenty kibibytes, which an answer would copy for each line.
+    let mut notes = Notes::new();
+    match note_in(features, line, &mut notes) {
+        Ok(()) => finish(term, order, features.len(), line, &notes),
         Err(refusal) => Err(refusal),
     }
 }

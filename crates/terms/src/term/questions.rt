@@ -26,6 +26,13 @@ impl<K: Copy> Term<K> {
         })
     }
 
+    // For how many statements there is memory.
+    pub fn room(&self) -> usize
+        ensures { result ≡ room_of self.now }
+    {
+        self.room
+    }
+
     // How many statements there are.
     pub fn statements(&self) -> usize
         ensures { result ≡ length (said_of self.now) }

@@ -3,7 +3,7 @@ ghost use Rattle.std.specs.Prelude.{◌≡◌, ℕ, suc, ◌+◌, ◌<◌, ◌�
 ghost use Rattle.features.specs.Model.{feature_names};
 ghost use Rattle.grammar.specs.Scanner.{here, state, begin, comma};
 ghost use Rattle.grammar.specs.Told.{nothing};
-ghost use Rattle.reading.specs.Reading.{Seen, LooksUp, RoomAt, RoomAfter, TermRead, ListRead, RootRead, NotesOf};
+ghost use Rattle.reading.specs.Reading.{Seen, LooksUp, RoomAt, RoomAfter, TermRead, ListRead, RootRead, NotesOf, NotesIn};
 ghost use Rattle.reading.specs.Notes.{noted};
 
 use crate::notes::Notes;
@@ -62,7 +62,7 @@ impl<'a, 'f> Reader<'a, 'f> {
     #[cycle(list_term)]
     fn term(
         &self,
-        notes: &mut Notes<'a>,
+        notes: &mut Notes,
         from: Option<Link>,
         at: usize,
         depth: usize,
@@ -89,7 +89,7 @@ impl<'a, 'f> Reader<'a, 'f> {
     #[cycle(list_term)]
     fn list(
         &self,
-        notes: &mut Notes<'a>,
+        notes: &mut Notes,
         variable: usize,
         seen: [bool; MOST],
         at: usize,
@@ -117,9 +117,9 @@ impl<'a, 'f> Reader<'a, 'f> {
 }
 
 // The root of the line, which is the whole line.
-fn root<'a>(reader: &Reader<'a, '_>, notes: &mut Notes<'a>) -> Result<(), Refusal>
-    requires { noted notes.old ≡ nothing }
-    ensures { RootRead (feature_names reader.now.features.now) reader.now.line.now (noted notes.old) (noted notes.new) result }
+fn root(reader: &Reader<'_, '_>, notes: &mut Notes) -> Result<(), Refusal>
+    requires { noted reader.now.line.now notes.old ≡ nothing }
+    ensures { RootRead (feature_names reader.now.features.now) reader.now.line.now (noted reader.now.line.now notes.old) (noted reader.now.line.now notes.new) result }
 {
     let end = reader.term(notes, None, 0, 0)?;
     if end < reader.line.len() {
@@ -135,18 +135,29 @@ fn is_long(line: &[u8]) -> bool
     line.len() > LONGEST_LINE
 }
 
-// What a line says, with its kinds by their texts, or a refusal for reason 1, 2 or 3.
-pub fn note<'a>(features: &Features, line: &'a [u8]) -> Result<Notes<'a>, Refusal>
-    ensures { NotesOf (feature_names features.now) line.now result }
+// Notes what a line says, with its kinds by the places of their texts, in the place of what was noted; or a refusal for reason 1, 2 or 3.
+pub fn note_in(features: &Features, line: &[u8], notes: &mut Notes) -> Result<(), Refusal>
+    ensures { NotesIn (feature_names features.now) line.now notes.new result }
 {
     if is_long(line) {
         return Err(Refusal::Limit { place: 0 });
     }
+    notes.clear();
     let reader = Reader { line, features };
-    let mut notes = Notes::new();
-    root(&reader, &mut notes)?;
+    root(&reader, notes)?;
     match notes.wrong {
         Some(place) => Err(Refusal::Word { place }),
-        None => Ok(notes),
+        None => Ok(()),
+    }
+}
+
+// The same as notes of its own.
+pub fn note(features: &Features, line: &[u8]) -> Result<Notes, Refusal>
+    ensures { NotesOf (feature_names features.now) line.now result }
+{
+    let mut notes = Notes::new();
+    match note_in(features, line, &mut notes) {
+        Ok(()) => Ok(notes),
+        Err(refusal) => Err(refusal),
     }
 }

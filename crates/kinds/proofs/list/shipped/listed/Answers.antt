@@ -5,14 +5,14 @@ use Rattle.declarations.specs.Names.{all_name, listed}
 use Rattle.declarations.specs.Rows.{add_rows, mask_of, bit, meets_all, closed_to}
 use Rattle.kinds.proofs.list.shipped.listed.Goals as goal
 
-pub invariant_of-result-2 : goal.invariant_of-result-2
+pub invariant_of-result-130 : goal.invariant_of-result-130
 unfolding follow_on all_below all_name listed add_rows mask_of bit
-invariant_of-result-2 c = rw c.copy_from_slice.ensures.after (record { few = omega arith; sound = refl; right = refl })
+invariant_of-result-130 c = record { few = omega arith; sound = refl; right = refl }
 
-pub invariant_of-result-3 : goal.invariant_of-result-3
+pub invariant_of-result-131 : goal.invariant_of-result-131
 unfolding meets_all closed_to count_trailing_zeros
-invariant_of-result-3 c = rw c.copy_from_slice.ensures.after (record { closed = refl })
+invariant_of-result-131 c = record { closed = refl }
 
 pub returns : goal.returns
 unfolding bit
-returns c = rw c.copy_from_slice.ensures.after refl
+returns c = refl

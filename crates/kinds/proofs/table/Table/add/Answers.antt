@@ -1,4 +1,4 @@
-use Rattle.std.proofs.Common.{◌≡◌, ◌^◌, ◌<◌, [], ◌∷◌, ◌++◌, map, length, sym, ap, ◌∙◌, subst, arith, length-append, true}
+use Rattle.std.proofs.Common.{◌≡◌, ◌^◌, ◌<◌, [], ◌∷◌, map, length, sym, ap, ◌∙◌, subst, arith, length-append, true}
 use Rattle.std.proofs.lemmas.List.{length-map}
 use Rattle.std.proofs.lemmas.Nat.{pow_below}
 use Rattle.declarations.specs.Declarations.{sound}
@@ -13,7 +13,7 @@ invariant_of-self c =
     let kind = c.args.kind.now in
     let kinds = s.kinds.items in
     let size = length-map kinds declaration in
-    let is = c.with_kind-kinds.ensures ∙ ap (λ ks. map (with_new kind) ks ++ kind ∷ []) c.as_slice.ensures.value in
+    let is = c.put_kind.ensures in
     let small : kind.wider < 2 ^ 64 = omega (arith, c.requires.wider, pow_below _ 64 c.requires.room) in
     record {
       few = omega (arith, ap length is, length-append (map (with_new kind) kinds) (kind ∷ []), length-map kinds (with_new kind), size, c.requires.room);
@@ -26,5 +26,5 @@ invariant_of-self c =
 pub returns-clause-after : goal.returns-clause-after
 returns-clause-after c =
     let kind = c.args.kind.now in
-    let is = c.with_kind-kinds.ensures ∙ ap (λ ks. map (with_new kind) ks ++ kind ∷ []) c.as_slice.ensures.value in
+    let is = c.put_kind.ensures in
     ap (map declaration) is ∙ declared_push kind c.args.self.now.kinds.items

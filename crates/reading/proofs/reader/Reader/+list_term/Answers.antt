@@ -53,7 +53,7 @@ list-returns-in-More t c =
     λ words s.
     let up = c.look_up-looked.ensures words s in
     more-read (feature_names c.args.self.now.features.now) line c.args.variable words c.args.at c.args.depth c.args.notes.now c.mark.new.self c.term.new.notes
-    c.in_ok-word.word c.look_up-looked.result word up (c.mark.ensures.told) c.in_ok-end.end v closes c.list.new.notes c.list.result
+    c.in_ok-word.word c.look_up-looked.result word up (c.mark.ensures.told line) c.in_ok-end.end v closes c.list.new.notes c.list.result
     (c.list.ensures _ up.2)
 
 pub list-returns-in-Done : goal.list-returns-in-Done
@@ -65,7 +65,7 @@ list-returns-in-Done t c =
     let closes = subst (λ k. ClosingRead line c.in_ok-end.end c.args.depth (Ok k)) c.in-Done.is (c.in_ok-after_item.ensures c.args.depth v.3) in
     λ words s.
     done-read (feature_names c.args.self.now.features.now) line c.args.variable words c.args.at c.args.depth c.args.notes.now c.mark.new.self c.term.new.notes
-    c.in_ok-word.word c.look_up-looked.result word (c.look_up-looked.ensures words s) (c.mark.ensures.told) c.in_ok-end.end v closes
+    c.in_ok-word.word c.look_up-looked.result word (c.look_up-looked.ensures words s) (c.mark.ensures.told line) c.in_ok-end.end v closes
 
 pub term-returns-in_err-head : goal.term-returns-in_err-head
 term-returns-in_err-head t c =
@@ -73,10 +73,10 @@ term-returns-in_err-head t c =
     rw (p.1, p.2) (c.in_err-head.ensures.answer c.args.depth c.requires.1.0)
 
 -- the front of a description
-front : (t : _) (c : term-In-Described t) → HeadRead c.args.self.now.line.now c.args.from c.args.at c.args.depth (noted c.args.notes.now) (noted c.head.new.notes) (Ok (Described c.in-Described.variable c.in-Described.kind))
+front : (t : _) (c : term-In-Described t) → HeadRead c.args.self.now.line.now c.args.from c.args.at c.args.depth (noted c.args.self.now.line.now c.args.notes.now) (noted c.args.self.now.line.now c.head.new.notes) (Ok (Described c.in-Described.variable c.in-Described.kind))
 front t c =
     let line = c.args.self.now.line.now in
-    subst (λ h. HeadRead line c.args.from c.args.at c.args.depth (noted c.args.notes.now) (noted c.head.new.notes) (Ok h)) c.in-Described.is
+    subst (λ h. HeadRead line c.args.from c.args.at c.args.depth (noted line c.args.notes.now) (noted line c.head.new.notes) (Ok h)) c.in-Described.is
     (c.in_ok-head.ensures.answer c.args.depth c.requires.1.0)
 
 pub term-returns-in_err-body-in-Described : goal.term-returns-in_err-body-in-Described
@@ -88,7 +88,7 @@ term-returns-in_err-body-in-Described t c =
 pub term-returns-in-Bare : goal.term-returns-in-Bare
 term-returns-in-Bare t c =
     let line = c.args.self.now.line.now in
-    let h = subst (λ h. HeadRead line c.args.from c.args.at c.args.depth (noted c.args.notes.now) (noted c.head.new.notes) (Ok h)) c.in-Bare.is
+    let h = subst (λ h. HeadRead line c.args.from c.args.at c.args.depth (noted line c.args.notes.now) (noted line c.head.new.notes) (Ok h)) c.in-Bare.is
     (c.in_ok-head.ensures.answer c.args.depth c.requires.1.0) in
     bare-read (feature_names c.args.self.now.features.now) line c.args.from c.args.at c.args.depth c.args.notes.now c.head.new.notes
     c.requires.1.1.0 c.head.ensures.counts.0 c.head.ensures.counts.1 c.in-Bare.end h
@@ -97,7 +97,7 @@ pub term-returns-in-Ends : goal.term-returns-in-Ends
 term-returns-in-Ends t c =
     let line = c.args.self.now.line.now in
     let h = front t (goal.at.term-returns-in-Ends t c).In-Described in
-    let b = subst (λ b. BodyRead line c.in-Described.variable c.in-Described.kind c.args.depth (noted c.head.new.notes) (noted c.body.new.notes) (Ok b)) c.in-Ends.is
+    let b = subst (λ b. BodyRead line c.in-Described.variable c.in-Described.kind c.args.depth (noted line c.head.new.notes) (noted line c.body.new.notes) (Ok b)) c.in-Ends.is
     (c.in_ok-body-in-Described.ensures.answer h.4) in
     ends_read (feature_names c.args.self.now.features.now) line c.args.from c.args.at c.args.depth c.args.notes.now c.head.new.notes
     c.requires.1.1.0 c.head.ensures.counts.0 c.head.ensures.counts.1 c.in-Described.variable c.in-Described.kind h c.body.new.notes
@@ -108,7 +108,7 @@ term-returns-in-Opens t c =
     let features = feature_names c.args.self.now.features.now in
     let line = c.args.self.now.line.now in
     let h = front t (goal.at.term-returns-in-Opens t c).In-Described in
-    let b = subst (λ b. BodyRead line c.in-Described.variable c.in-Described.kind c.args.depth (noted c.head.new.notes) (noted c.body.new.notes) (Ok b)) c.in-Opens.is
+    let b = subst (λ b. BodyRead line c.in-Described.variable c.in-Described.kind c.args.depth (noted line c.head.new.notes) (noted line c.body.new.notes) (Ok b)) c.in-Opens.is
     (c.in_ok-body-in-Described.ensures.answer h.4) in
     opens_read features line c.args.from c.args.at c.args.depth c.args.notes.now c.head.new.notes
     c.requires.1.1.0 c.head.ensures.counts.0 c.head.ensures.counts.1 c.in-Described.variable c.in-Described.kind h c.body.new.notes

@@ -2,16 +2,21 @@ use Rattle.std.proofs.Common.{◌≡◌, ◌<◌, length, ap, sym, refl, ◌∙�
 use Rattle.std.proofs.lemmas.Bool.{eqb-true, eqb-false, leb-true, leb-false}
 use Rattle.grammar.specs.declared.statement.Statement.TheVariants.{Kind}
 use Rattle.grammar.specs.Told.{say}
-use Rattle.reading.specs.Notes.{noted}
+use Rattle.reading.specs.Notes.{noted, part}
 use Rattle.reading.proofs.Describing.{no_text, text-lawful, no_list, too_deep, open_list}
+use Rattle.reading.proofs.Spanning.{spans-part}
 use Rattle.reading.proofs.reader.Reader.body.Goals as goal
 use Rattle.reading.proofs.reader.Reader.body.Goals.{After-mark}
 
 -- what is said of the kind text
-told : (c : After-mark) → noted c.say_kind.new.self ≡ say (Kind c.args.variable c.word-text.result.text.now) c.args.at (noted c.args.notes.now)
+told : (c : After-mark) → noted c.args.self.now.line.now c.say_kind.new.self ≡ say (Kind c.args.variable c.word-text.result.text.now) c.args.at (noted c.args.self.now.line.now c.args.notes.now)
 told c =
+    let line = c.args.self.now.line.now in
+    let w = c.word-text.result.text.now in
     let (g, place) = c.word-text.ensures in
-    c.say_kind.ensures.told ∙ ap (λ p. say (Kind c.args.variable c.word-text.result.text.now) p (noted c.args.notes.now)) place
+    c.say_kind.ensures.told line
+    ∙ ap (λ n. say (Kind c.args.variable (part line (record { place = n; len = length w }))) n (noted line c.args.notes.now)) place
+    ∙ ap (λ x. say (Kind c.args.variable x) c.args.at (noted line c.args.notes.now)) (spans-part line c.args.at _ w g.spans)
 
 some : (c : After-mark) → 0 < length c.word-text.result.text.now
 some c = omega (arith, eqb-false _ 0 (sym c.if-is_empty.ensures))

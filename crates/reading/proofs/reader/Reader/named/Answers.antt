@@ -1,8 +1,9 @@
-use Rattle.std.proofs.Common.{Some, sym, ◌∙◌, arith}
+use Rattle.std.proofs.Common.{◌≡◌, length, Some, sym, ap, ◌∙◌, arith}
 use Rattle.std.proofs.lemmas.Result.{err_from_is_err_and}
-use Rattle.reading.specs.Notes.{noted}
+use Rattle.reading.specs.Notes.{noted, part}
 use Rattle.reading.proofs.Naming.{name-long, name-lawful, name-ends, name-colon}
-use Rattle.reading.proofs.Noting.{name-told, name_marked}
+use Rattle.reading.proofs.Noting.{name-number, name-told, name_marked}
+use Rattle.reading.proofs.Spanning.{spans-part}
 use Rattle.reading.proofs.reader.Reader.named.Goals as goal
 
 pub returns-in_err-name : goal.returns-in_err-name
@@ -23,9 +24,10 @@ returns-in-Colon c =
     let w = c.in_ok-name.name.text.now in
     let (token, short) = c.in_ok-name.ensures in
     let (g, place) = token in
-    let t0 = noted c.args.notes.now in
+    let p : part line c.span.result ≡ w = ap (part line) c.span.ensures ∙ ap (λ n. part line (record { place = n; len = length w })) place ∙ spans-part line i _ w g.spans in
+    let t0 = noted line c.args.notes.now in
     let met = c.meet-found.ensures.told in
-    let said = c.say_link.ensures.told in
+    let said = c.say_link.ensures.told line in
     let (number, known) = c.meet-found.ensures.answer in
     record {
       answer =
@@ -36,8 +38,8 @@ returns-in-Colon c =
             name-lawful line i d w at c.requires.0 c.requires.1.0 g short,
             spans,
             kind,
-            number,
-            name_marked c.args.from _ _ w t0 _ _ met said number known i _ c.describe.ensures.told,
+            name-number c.args.from _ _ _ w p t0 _ _ met said number known,
+            name_marked c.args.from _ _ _ w p t0 _ _ met said number known i _ (c.describe.ensures.told line),
           );
       counts = (omega arith, omega arith);
     }
@@ -49,9 +51,10 @@ returns-in_default c =
     let w = c.in_ok-name.name.text.now in
     let (token, short) = c.in_ok-name.ensures in
     let (g, place) = token in
-    let t0 = noted c.args.notes.now in
+    let p : part line c.span.result ≡ w = ap (part line) c.span.ensures ∙ ap (λ n. part line (record { place = n; len = length w })) place ∙ spans-part line i _ w g.spans in
+    let t0 = noted line c.args.notes.now in
     let met = c.meet-found.ensures.told in
-    let said = c.say_link.ensures.told in
+    let said = c.say_link.ensures.told line in
     let (number, known) = c.meet-found.ensures.answer in
     record {
       answer =
@@ -61,7 +64,7 @@ returns-in_default c =
             name-lawful line i d w at c.requires.0 c.requires.1.0 g short,
             g.spans,
             name-ends line i d w at c.requires.0 c.requires.1.0 g short (λ e. c.in_default.not-Colon (c.mark.ensures ∙ e)),
-            name-told c.args.from _ _ w t0 _ _ met said number known,
+            name-told c.args.from _ _ _ w p t0 _ _ met said number known,
           );
       counts = (omega arith, omega arith);
     }

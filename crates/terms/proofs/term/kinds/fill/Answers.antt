@@ -3,7 +3,7 @@ use Rattle.std.proofs.lemmas.List.{length-map, length_push}
 use Rattle.grammar.specs.Lawful.{depths, statements}
 use Rattle.grammar.proofs.Depths.{depths_few}
 use Rattle.grammar.specs.Only.{OnlyReads}
-use Rattle.reading.specs.Notes.{said_of}
+use Rattle.reading.specs.Notes.{said_in}
 use Rattle.terms.proofs.Terming.{one_depth}
 use Rattle.terms.proofs.WithKinds.{read_none, read_more, no_wrong, some_statement, that_statement}
 use Rattle.terms.proofs.term.kinds.fill.Goals as goal
@@ -21,7 +21,7 @@ pub unwrap-statement-requires : goal.unwrap-statement-requires
 unwrap-statement-requires g c =
     let m = g.O.WrittenOrder.texts c.args.order.now in
     some_statement m _ _ c.with_kind.ensures
-    (no_wrong m c.args.noted.now _ c.loop-said.said-index c.loop-said-test.true (_, c.loop-said.invariant.0) c.requires.kinds)
+    (no_wrong m c.args.line.now c.args.noted.now _ c.loop-said.said-index c.loop-said-test.true (_, c.loop-said.invariant.0) c.requires.kinds)
 
 pub push-requires : goal.push-requires
 push-requires g c =
@@ -43,10 +43,10 @@ loop-said-preserved g c =
     let m = g.O.WrittenOrder.texts c.args.order.now in
     let (read, _, at, rows, caps) = c.loop-said.invariant in
     let o = that_statement m _ _ _ c.with_kind.ensures c.unwrap-statement.ensures in
-    let more = read_more m c.args.noted.now _ c.loop-said.said-index c.loop-said-test.true (vec_items c.loop-said.rows) c.unwrap-statement.result read o in
+    let more = read_more m c.args.line.now c.args.noted.now _ c.loop-said.said-index c.loop-said-test.true (vec_items c.loop-said.rows) c.unwrap-statement.result read o in
     let pushed = c.push.ensures in
     let long = ap length pushed.items ∙ length_push (vec_items c.loop-said.rows) _ in (
-      subst (OnlyReads m (map said_of (take (c.loop-said.said-index + 1) c.args.noted.now))) (sym pushed.items) more,
+      subst (OnlyReads m (map (said_in c.args.line.now) (take (c.loop-said.said-index + 1) c.args.noted.now))) (sym pushed.items) more,
       pushed.deep,
       omega (arith, c.push.new.rows.ok.0, c.loop-said.rows.ok.0),
       pushed.capacity.0 ∙ rows,

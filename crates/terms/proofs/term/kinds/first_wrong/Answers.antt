@@ -6,4 +6,4 @@ loop-said-preserved g c =
     let m = g.O.WrittenOrder.texts c.args.order.now in
     let (us, read) = c.loop-said.invariant in
     let (u, o) = its_statement m _ _ c.with_kind.ensures c.if-is_none.ensures in
-    (_, read_more m c.args.noted.now _ c.loop-said.said-index c.loop-said-test.true us u read o)
+    (_, read_more m c.args.line.now c.args.noted.now _ c.loop-said.said-index c.loop-said-test.true us u read o)

@@ -8,22 +8,22 @@ use Rattle.terms.proofs.term.kinds.read_line.Given as given
 use Rattle.terms.proofs.term.kinds.read_line.Goals as goal
 use Rattle.terms.proofs.term.kinds.read_line.Goals.{After-len}
 
-found : (g : given.Over) (c : After-len g) → Found (feature_names c.args.features.now) c.len.result c.args.line.now c.in-Ok.notes
+found : (g : given.Over) (c : After-len g) → Found (feature_names c.args.features.now) c.len.result c.args.line.now c.note_in.new.notes
 found g c =
     let (words, same, right) = c.in-Ok.ensures in
     record { many = sym c.len.ensures.answer; words = words; same = same; right = right }
 
 pub finish-requires : goal.finish-requires
-finish-requires g c = (feature_names c.args.features.now, c.args.line.now, found g (goal.at.finish-requires g c).After-len)
+finish-requires g c = (feature_names c.args.features.now, found g (goal.at.finish-requires g c).After-len)
 
 pub returns-in-Ok : goal.returns-in-Ok
 returns-in-Ok g c =
     let F = feature_names c.args.features.now in
     let f = found g (goal.at.returns-in-Ok g c).After-len in
     record {
-      answer = c.finish.ensures.answer F c.args.line.now f;
+      answer = c.finish.ensures.answer F f;
       kept = c.finish.ensures.kept;
-      fixed = c.finish.ensures.fixed F c.args.line.now f;
+      fixed = c.finish.ensures.fixed F f;
       few = c.finish.ensures.few;
       fields = (c.finish.ensures.fields.0, λ h. c.finish.ensures.fields.1 h ∙ c.len.ensures.answer);
     }

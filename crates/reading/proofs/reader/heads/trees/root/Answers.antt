@@ -8,7 +8,7 @@ use Rattle.reading.proofs.reader.heads.trees.root.Goals as goal
 
 pub term-requires : goal.term-requires
 term-requires c =
-    let none = noted_nothing c.args.notes.now c.requires in
+    let none = noted_nothing c.args.reader.now.line.now c.args.notes.now c.requires in
     (omega arith, (runs_start limits c.args.reader.now.line.now, ((omega (arith, none.0), omega (arith, none.1)), omega arith)))
 
 pub returns-in_err-end : goal.returns-in_err-end

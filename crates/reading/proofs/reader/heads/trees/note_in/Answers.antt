@@ -3,7 +3,7 @@ use Rattle.std.proofs.lemmas.Bool.{ltb-false}
 use Rattle.std.proofs.lemmas.Result.{err_from_is_err_and}
 use Rattle.features.specs.Model.{feature_names}
 use Rattle.reading.proofs.Rooting.{root_fails, root-wrong, root-right}
-use Rattle.reading.proofs.reader.heads.trees.note.Goals as goal
+use Rattle.reading.proofs.reader.heads.trees.note_in.Goals as goal
 
 pub returns-in_err-root : goal.returns-in_err-root
 returns-in_err-root c =
@@ -12,10 +12,10 @@ returns-in_err-root c =
 
 pub returns-in-Some : goal.returns-in-Some
 returns-in-Some c =
-    root-wrong (feature_names c.args.features.now) c.args.line.now (ltb-false _ _ (sym c.if-is_long.ensures)) c.new-notes.result c.root.new.notes
-    c.new-notes.ensures c.in_ok-root.ensures c.in-Some.place c.in-Some.is
+    root-wrong (feature_names c.args.features.now) c.args.line.now (ltb-false _ _ (sym c.if-is_long.ensures)) c.clear.new.self c.root.new.notes
+    (c.clear.ensures c.args.line.now) c.in_ok-root.ensures c.in-Some.place c.in-Some.is
 
 pub returns-in-None : goal.returns-in-None
 returns-in-None c =
-    root-right (feature_names c.args.features.now) c.args.line.now (ltb-false _ _ (sym c.if-is_long.ensures)) c.new-notes.result c.root.new.notes
-    c.new-notes.ensures c.in_ok-root.ensures c.in-None.is
+    root-right (feature_names c.args.features.now) c.args.line.now (ltb-false _ _ (sym c.if-is_long.ensures)) c.clear.new.self c.root.new.notes
+    (c.clear.ensures c.args.line.now) c.in_ok-root.ensures c.in-None.is
