@@ -1,7 +1,7 @@
 // Reading a band: an amount, and the band whose text stands first.
+ghost use Rattle.std.specs.Prelude.{◌≡◌};
 ghost use Rattle.orders.specs.Texts.{Back, Taken};
 ghost use Rattle.bands.specs.Letters.{texts};
-ghost use Rattle.std.specs.Prelude.{◌≡◌};
 ghost use Rattle.bands.specs.Texts.{ReadsText, ReadsNumber, plain};
 
 use crate::band::Band;

@@ -1,5 +1,5 @@
 // Writing the text of a band, in memory of fixed size.
-ghost use Rattle.std.specs.Prelude.{◌≡◌, ◌≤◌, ◌∷◌, ◌++◌, length, Some};
+ghost use Rattle.std.specs.Prelude.{◌≤◌, ◌∷◌, ◌++◌, length, Some};
 ghost use Rattle.bands.specs.Texts.{text as text_of};
 ghost use Rattle.orders.specs.Texts.{Writes};
 
@@ -7,7 +7,7 @@ use crate::band::Band;
 use itoa::Buffer;
 
 // Puts two numbers with two points between first into the memory and answers their bytes, or 0 where they do not fit.
-// Not by `write!` nor a string of their own: what is put together there would be copied once more.
+// Not by `write!`, whose contract does not say that it succeeds where there is room; nor in a string of its own, which would be copied once more.
 fn put_ends(low: &[u8], high: &[u8], memory: &mut [u8]) -> usize
     requires { (length low.now ≤ 20) × (length high.now ≤ 20) }
     ensures { Writes (Some (low.now ++ 46 ∷ 46 ∷ high.now)) memory.old memory.new result }

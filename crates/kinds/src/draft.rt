@@ -20,7 +20,7 @@ pub struct Draft {
 fn any_alone() -> Table
     ensures { kinds_of result ≡ any ∷ [] }
 {
-    // Zeros past it, which are set at once, and not copies of `any`.
+    // The room past it is zeros, which cost less to write than copies of `any`.
     let mut room = [UNUSED; MOST];
     room[0] = ANY;
     Table {

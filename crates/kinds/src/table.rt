@@ -47,7 +47,7 @@ pub const ANY: Kind = Kind {
     row: 1,
 };
 
-// What lies in the room past the last kind, where nothing else lay there before.
+// What fills the room past the last kind.
 pub const UNUSED: Kind = Kind {
     name: BLANK,
     wider: 0,

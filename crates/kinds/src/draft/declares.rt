@@ -124,6 +124,7 @@ fn grow_kinds(kinds: &mut ShortList<Kind, MOST>, kind: &Kind)
     grow_rows(&mut kinds.room[..kinds.len], kind);
 }
 
+// The same of kinds in a slice.
 fn grow_rows(kinds: &mut [Kind], kind: &Kind)
     ensures { kinds.new ≡ map (with_new kind.now) kinds.old }
 {

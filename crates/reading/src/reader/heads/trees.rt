@@ -135,7 +135,8 @@ fn is_long(line: &[u8]) -> bool
     line.len() > LONGEST_LINE
 }
 
-// Notes what a line says, with its kinds by the places of their texts, in the place of what was noted; or a refusal for reason 1, 2 or 3.
+// Notes what a line says, with its kinds by the places of their texts, in the place of what was noted; or a refusal for reason 1, 2 or 3,
+// after which what the notes hold means nothing.
 pub fn note_in(features: &Features, line: &[u8], notes: &mut Notes) -> Result<(), Refusal>
     ensures { NotesIn (feature_names features.now) line.now notes.new result }
 {
@@ -151,7 +152,7 @@ pub fn note_in(features: &Features, line: &[u8], notes: &mut Notes) -> Result<()
     }
 }
 
-// The same as notes of its own.
+// The same, as notes that are answered.
 pub fn note(features: &Features, line: &[u8]) -> Result<Notes, Refusal>
     ensures { NotesOf (feature_names features.now) line.now result }
 {
